@@ -1,0 +1,6 @@
+pub mod Plan
+pub mod Day
+pub mod Run
+pub mod Sets
+pub mod Test
+pub mod Covered
