@@ -1,2 +1,3 @@
 pub mod Demands
 pub mod Climbs
+pub mod Shrinks

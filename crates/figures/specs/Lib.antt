@@ -1,3 +1,4 @@
 pub mod Demand
 pub mod Window
 pub mod Figure
+pub mod Lighter

@@ -11,7 +11,7 @@ loop-x-again g c =
     let b = g .R·Precedence .before (c .args .rule .now) in
     let set = c .args .set .now in
     let own = c .args .own .now in
-    subst (λ (x : ℕ). Below b set own x) (sym (c .in-Some .ensures tt .0)) (below-next b set own (c .loop-x .x) (c .loop-x .inv))
+    subst (λ (x : ℕ). Below b set own x) {x = demand b set own (c .loop-x .x)} (sym (c .in-Some .ensures tt .0)) (below-next b set own (c .loop-x .x) (c .loop-x .inv))
 
 pub returns-in-None : need.returns-in-None
 returns-in-None g c y w =

@@ -2,7 +2,7 @@ use Prim.Native.Nat.{_≤_, _+_}
 use mathlib.Core.Path.{_≡_}
 use lib.ListN.{take}
 use Rattle.figures.specs.Demand.{charge, all-held-off}
-use Rattle.figures.proofs.demand.demand_within.Given as given
+use Rattle.figures.proofs.windows.demand_within.Given as given
 
 abbrev pub Inv-loop-copy : given.InvT-loop-copy
 Inv-loop-copy g l =

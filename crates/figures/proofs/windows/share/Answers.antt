@@ -3,7 +3,7 @@ use Prim.Native.Nat.{_≤_, _/_, _+_, _-_, _*_}
 use native.Mathlib.Nat.{div-le-self, mul-le-mul}
 use native.Mathlib.Omega.{arith}
 use Rattle.figures.specs.Demand.{work-in}
-use Rattle.figures.proofs.demand.share.Needs as need
+use Rattle.figures.proofs.windows.share.Needs as need
 
 pub returns : need.returns
 returns c =

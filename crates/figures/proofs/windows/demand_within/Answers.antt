@@ -4,7 +4,7 @@ use native.Mathlib.Omega.{arith}
 use lib.Seq.{take-all}
 use Rattle.figures.specs.Demand.{all-held-off}
 use Rattle.figures.proofs.Demands.{held-off-more, held-off-part}
-use Rattle.figures.proofs.demand.demand_within.Needs as need
+use Rattle.figures.proofs.windows.demand_within.Needs as need
 
 pub returns-then-total-limit-2 : need.returns-then-total-limit-2
 returns-then-total-limit-2 g c =
