@@ -1,6 +1,6 @@
 ghost use mathlib.Core.Path.{_≡_};
-ghost use Rattle.std.specs.Results.{Cases};
-ghost use Rattle.terms.specs.Limits.{Lawful};
+ghost use Rattle.std.specs.Results.{Cases, isOk};
+ghost use Rattle.terms.specs.Limits.{Lawful, lawful};
 ghost use Rattle.terms.specs.Making.{Of};
 ghost use Rattle.terms.specs.declared.refusal.Refusal.the-variants.{Limits};
 use crate::draft::Draft;
@@ -10,7 +10,8 @@ use crate::terms::Terms;
 impl Terms {
     // The draft's numbers as terms, or refusal 2 where one of them breaks a limit.
     pub fn new(draft: Draft) -> Result<Terms, Refusal>
-        ensures { λ r. ⌜ Cases r (λ t. Of draft t) (λ e. (e ≡ Limits) × (Lawful draft → ⊥)) ⌝ }
+        ensures test { λ r. ⌜ isOk r ≡ lawful draft ⌝ }
+        ensures cases { λ r. ⌜ Cases r (λ t. Lawful draft × Of draft t) (λ e. (e ≡ Limits) × (Lawful draft → ⊥)) ⌝ }
     {
         let Draft { number, period, deadline, run, standby, lateness } = draft;
         if number < 1 || number > 65535 {
