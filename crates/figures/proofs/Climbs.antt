@@ -58,11 +58,11 @@ module _ (before : Terms → Terms → Bool) (set : List JobCopy) (own : JobCopy
       ⊎-elim
       (λ late. rw (lt-ltb (own .terms .deadline) (x + own .lateness) late) (λ y w. omega (arith, b .under y (w .some) (w .fixed))))
       (λ in-time.
-          rw (le-ltb (own .terms .deadline) (x + own .lateness) in-time)
-          (⊎-elim
-          (λ rests. rw (eq-eqb (demand before set own x) x rests) (x, below-window x b (sym rests), refl, in-time))
-          (λ goes-on. rw (ne-eqb (demand before set own x) x goes-on) (climb-figured turns (demand before set own x) (below-next x b) (omega (arith, b .rises))))
-          (cases-eq (demand before set own x) x)))
+      rw (le-ltb (own .terms .deadline) (x + own .lateness) in-time)
+      (⊎-elim
+      (λ rests. rw (eq-eqb (demand before set own x) x rests) (x, below-window x b (sym rests), refl, in-time))
+      (λ goes-on. rw (ne-eqb (demand before set own x) x goes-on) (climb-figured turns (demand before set own x) (below-next x b) (omega (arith, b .rises))))
+      (cases-eq (demand before set own x) x)))
       (cases-lt (own .terms .deadline) (x + own .lateness))
 
   pub figure-figured : Figured before set own (figure-of before set own)

@@ -50,10 +50,10 @@ module _ (before : Terms → Terms → Bool) where
   pub held-off-more : (set : List JobCopy) (own : JobCopy) (x n : ℕ) (c : JobCopy) → n < length set → c ≡ getD set n c → all-held-off before (take (n + 1) set) own x ≡ all-held-off before (take n set) own x + held-off before c own x
   held-off-more set own x n c lt read = rw add-one (go set n c lt read)
     where
-    go : (set : List JobCopy) (n : ℕ) (c : JobCopy) → n < length set → c ≡ getD set n c → all-held-off before (take (suc n) set) own x ≡ all-held-off before (take n set) own x + held-off before c own x
-    go [] n c lt read = absurd (not-suc-le-zero lt)
-    go (d ∷ set) zero c lt read = omega (arith, ap (λ e. held-off before e own x) read)
-    go (d ∷ set) (suc n) c lt read = omega (arith, go set n c (le-of-suc-le-suc lt) read)
+      go : (set : List JobCopy) (n : ℕ) (c : JobCopy) → n < length set → c ≡ getD set n c → all-held-off before (take (suc n) set) own x ≡ all-held-off before (take n set) own x + held-off before c own x
+      go [] n c lt read = absurd (not-suc-le-zero lt)
+      go (d ∷ set) zero c lt read = omega (arith, ap (λ e. held-off before e own x) read)
+      go (d ∷ set) (suc n) c lt read = omega (arith, go set n c (le-of-suc-le-suc lt) read)
 
   -- a part of the set holds off no more than the set
   pub held-off-part : (set : List JobCopy) (own : JobCopy) (x n : ℕ) → all-held-off before (take n set) own x ≤ all-held-off before set own x

@@ -26,10 +26,10 @@ lowest f (suc n) =
     ⊎-elim
     (λ p. inl (p .0, omega arith, p .2, p .3))
     (λ none.
-        ⊎-elim
-        (λ up. inr (λ k l. ⊎-elim (λ less. none k less) (λ most. let e : k ≡ n = omega arith in omega (arith, e, ap f e)) (cases-lt k n)))
-        (λ down. inl (n, omega arith, down, none))
-        (cases-lt n (f n)))
+    ⊎-elim
+    (λ up. inr (λ k l. ⊎-elim (λ less. none k less) (λ most. let e : k ≡ n = omega arith in omega (arith, e, ap f e)) (cases-lt k n)))
+    (λ down. inl (n, omega arith, down, none))
+    (cases-lt n (f n)))
     (lowest f n)
 
 -- a monotone function that does not raise x has a least fixed point up to x
@@ -37,9 +37,9 @@ resting : (f : ℕ → ℕ) → ((a b : ℕ) → a ≤ b → f a ≤ f b) → (x
 resting f mono x down =
     ⊎-elim
     (λ p.
-        let y : ℕ = p .0 in
-        let up : y ≤ f y = ⊎-elim (λ less. absurd (omega (arith, p .3 (f y) less, mono (f y) y (p .2)))) (λ most. most) (cases-lt (f y) y) in
-        (y, omega arith, omega (arith, up, p .2), λ z e. ⊎-elim (λ less. absurd (omega (arith, p .3 z less, e))) (λ most. most) (cases-lt z y)))
+    let y : ℕ = p .0 in
+    let up : y ≤ f y = ⊎-elim (λ less. absurd (omega (arith, p .3 (f y) less, mono (f y) y (p .2)))) (λ most. most) (cases-lt (f y) y) in
+    (y, omega arith, omega (arith, up, p .2), λ z e. ⊎-elim (λ less. absurd (omega (arith, p .3 z less, e))) (λ most. most) (cases-lt z y)))
     (λ none. absurd (omega (arith, none x (omega arith))))
     (lowest f (suc x))
 
@@ -47,8 +47,7 @@ module _ (before : Terms → Terms → Bool) where
   -- a window that holds all that is asked is no shorter than the least one
   pub window-within : (set : List JobCopy) (own : JobCopy) (x : ℕ) → demand before set own x ≤ x → (y : ℕ) × Window before set own y × (y ≤ x)
   window-within set own x holds =
-      let p = resting (demand before set own) (demand-mono before set own) x holds in
-      (
+      let p = resting (demand before set own) (demand-mono before set own) x holds in (
         p .0,
         record { some = omega (arith, p .2, charge-some own); fixed = p .2; least = λ z some fixed. p .3 z fixed },
         p .1,
@@ -56,10 +55,10 @@ module _ (before : Terms → Terms → Bool) where
 
   -- where less is asked in every window, and the copy is no later and no sooner due, the figure is no larger
   pub figure-shrinks :
-    (light-set set : List JobCopy) (light own : JobCopy) →
-    ((x : ℕ) → demand before light-set light x ≤ demand before set own x) →
-    light .lateness ≤ own .lateness → own .terms .deadline ≤ light .terms .deadline →
-    (f : ℕ) → figure-of before set own ≡ Some f → (e : ℕ) × (figure-of before light-set light ≡ Some e) × (e ≤ f)
+      (light-set set : List JobCopy) (light own : JobCopy) →
+      ((x : ℕ) → demand before light-set light x ≤ demand before set own x) →
+      light .lateness ≤ own .lateness → own .terms .deadline ≤ light .terms .deadline →
+      (f : ℕ) → figure-of before set own ≡ Some f → (e : ℕ) × (figure-of before light-set light ≡ Some e) × (e ≤ f)
   figure-shrinks light-set set light own less earlier due f is =
       let found : Figured before set own (Some f) = rw is at (figure-figured before set own) in
       let x : ℕ = found .0 in
@@ -93,4 +92,4 @@ module _ (before : Terms → Terms → Bool) where
   no-longer set own None is = tt
   no-longer set own (Some f) is =
       λ light-set light lighter l due.
-          figure-shrinks light-set set light own (λ x. omega (arith, lighter-asks lighter x, l .shorter)) (l .earlier) due f (sym is)
+      figure-shrinks light-set set light own (λ x. omega (arith, lighter-asks lighter x, l .shorter)) (l .earlier) due f (sym is)

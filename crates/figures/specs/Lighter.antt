@@ -22,9 +22,9 @@ pub data Lighter (before : Terms → Terms → Bool) (light heavy : JobCopy) : L
   empty : Lighter before light heavy [] []
   left-out : {cs ds : List JobCopy} (d : JobCopy) → Lighter before light heavy cs ds → Lighter before light heavy cs (d ∷ ds)
   replaced :
-    {cs ds : List JobCopy} (c d : JobCopy) → NoHeavier c d →
-    (before (c .terms) (light .terms) ≡ true → before (d .terms) (heavy .terms) ≡ true) →
-    Lighter before light heavy cs ds → Lighter before light heavy (c ∷ cs) (d ∷ ds)
+      {cs ds : List JobCopy} (c d : JobCopy) → NoHeavier c d →
+      (before (c .terms) (light .terms) ≡ true → before (d .terms) (heavy .terms) ≡ true) →
+      Lighter before light heavy cs ds → Lighter before light heavy (c ∷ cs) (d ∷ ds)
 
 -- where there is a figure, a copy no heavier and no sooner due has one in every lighter set, and it is no larger
 abbrev pub NoLonger : (Terms → Terms → Bool) → List JobCopy → JobCopy → Option ℕ → Type 0

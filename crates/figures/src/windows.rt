@@ -37,12 +37,22 @@ fn share_before<R: Precedence>(rule: &R, copy: &JobCopy, own: &JobCopy, x: u64) 
     ensures value { λ r. ⌜ r ≡ held-off (R·Precedence .before (now (rule .entry))) (now (copy .entry)) (now (own .entry)) x ⌝ }
     ensures small { λ r. ⌜ r ≤ 5000000000000000 ⌝ }
 {
-    if rule.goes_before(&copy.terms, &own.terms) { share(copy, x) } else { 0 }
+    if rule.goes_before(&copy.terms, &own.terms) {
+        share(copy, x)
+    } else {
+        0
+    }
 }
 
 // What is asked of a window of x ticks, unless that is more than the limit.
 // The sum stops past the limit, so that it stays small however many copies there are.
-fn demand_within<R: Precedence>(rule: &R, set: &[JobCopy], own: &JobCopy, x: u64, limit: u64) -> Option<u64>
+fn demand_within<R: Precedence>(
+    rule: &R,
+    set: &[JobCopy],
+    own: &JobCopy,
+    x: u64,
+    limit: u64,
+) -> Option<u64>
     requires { ⌜ (x ≤ 1000000) × (limit ≤ 1000000) ⌝ }
     ensures { λ r. ⌜ Cases r (limit < demand (R·Precedence .before (now (rule .entry))) (now (set .entry)) (now (own .entry)) x) (λ w. (w ≡ demand (R·Precedence .before (now (rule .entry))) (now (set .entry)) (now (own .entry)) x) × (w ≤ limit)) ⌝ }
 {

@@ -4,3 +4,4 @@ pub mod Run
 pub mod Sets
 pub mod Test
 pub mod Covered
+pub mod Fewer

@@ -85,5 +85,5 @@ pub record Keeps (before : Terms → Terms → Bool) (ps : List Placement) (day 
   pub only-ready : (g t n k : ℕ) → run g t ≡ runs n k → (p : Placement) × In p ps × (number p ≡ n) × Ready day stop run g p k t
   -- where anything is ready it runs the job that goes before the others, and of that job the earliest call-up
   pub most-urgent :
-    (g t : ℕ) (p : Placement) (k : ℕ) → halted stop g t ≡ false → In p ps → Ready day stop run g p k t →
-    (q : Placement) × (j : ℕ) × In q ps × (run g t ≡ runs (number q) j) × Ahead before q j p k
+      (g t : ℕ) (p : Placement) (k : ℕ) → halted stop g t ≡ false → In p ps → Ready day stop run g p k t →
+      (q : Placement) × (j : ℕ) × In q ps × (run g t ≡ runs (number q) j) × Ahead before q j p k

@@ -8,8 +8,8 @@ use Rattle.terms.specs.declared.terms.Terms.{Terms}
 use Rattle.terms.specs.Making.{Of}
 
 pub same-numbers :
-  (t u : Terms) → t .number ≡ u .number → t .period ≡ u .period → t .deadline ≡ u .deadline →
-  t .run ≡ u .run → t .standby ≡ u .standby → t .lateness ≡ u .lateness → t ≡ u
+    (t u : Terms) → t .number ≡ u .number → t .period ≡ u .period → t .deadline ≡ u .deadline →
+    t .run ≡ u .run → t .standby ≡ u .standby → t .lateness ≡ u .lateness → t ≡ u
 same-numbers t u n p d r s l = λ i. record {
   number = n i;
   period = p i;

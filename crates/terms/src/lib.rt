@@ -7,4 +7,7 @@ mod terms;
 
 pub use draft::Draft;
 pub use refusal::Refusal;
+pub use refusal::RefusalDebug;
+pub use refusal::RefusalEq;
+pub use refusal::RefusalPartialEq;
 pub use terms::Terms;

@@ -13,7 +13,14 @@ impl Terms {
         ensures test { λ r. ⌜ isOk r ≡ lawful draft ⌝ }
         ensures cases { λ r. ⌜ Cases r (λ t. Lawful draft × Of draft t) (λ e. (e ≡ Limits) × (Lawful draft → ⊥)) ⌝ }
     {
-        let Draft { number, period, deadline, run, standby, lateness } = draft;
+        let Draft {
+            number,
+            period,
+            deadline,
+            run,
+            standby,
+            lateness,
+        } = draft;
         if number < 1 || number > 65535 {
             return Err(Refusal::Limits);
         }
@@ -23,6 +30,13 @@ impl Terms {
         if lateness > deadline || run > deadline - lateness || standby > deadline - lateness {
             return Err(Refusal::Limits);
         }
-        Ok(Terms { number, period, deadline, run, standby, lateness })
+        Ok(Terms {
+            number,
+            period,
+            deadline,
+            run,
+            standby,
+            lateness,
+        })
     }
 }

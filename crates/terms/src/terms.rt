@@ -2,7 +2,7 @@ ghost use mathlib.Core.Path.{_≡_};
 ghost use Prim.Native.Nat.{_+_, _≤_};
 
 // A job's terms: its number and five tick counts. The limits hold of every value of this type.
-#[derive(Clone, Copy, PartialEq, Eq, Debug)]
+#[derive(Clone, Copy)]
 pub struct Terms {
     // 1 to 65,535
     pub(crate) number: u32,

@@ -14,7 +14,7 @@ returns-then-total-limit-2 g c =
     omega (
       arith,
       held-off-more b set own (c .args .x) (c .loop-copy .copy-index) (c .copy-item .result) (c .loop-copy-test .taken) (c .copy-item .is),
-      held-off-part b set own (c .args .x) (c .loop-copy .copy-index + 1)
+      held-off-part b set own (c .args .x) (c .loop-copy .copy-index + 1),
     )
 
 pub loop-copy-again : need.loop-copy-again

@@ -6,5 +6,5 @@ use Rattle.figures.proofs.windows.demand_within.Given as given
 
 abbrev pub Inv-loop-copy : given.InvT-loop-copy
 Inv-loop-copy g l =
-  (l .total ≡ charge (l .own) + all-held-off (g .R·Precedence .before (l .rule)) (take (l .copy-index) (l .set)) (l .own) (l .x))
-  × (l .total ≤ l .limit)
+    (l .total ≡ charge (l .own) + all-held-off (g .R·Precedence .before (l .rule)) (take (l .copy-index) (l .set)) (l .own) (l .x))
+    × (l .total ≤ l .limit)

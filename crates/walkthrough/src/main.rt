@@ -1,0 +1,16 @@
+// One task from start to end, told step by step for support staff.
+mod longtable;
+mod machine;
+mod refusals;
+
+use std::io;
+
+fn main(rt: LibcRuntime) -> io::Result<()> {
+    println!(rt, "Numbatmatte walk-through")?;
+    println!(rt, "")?;
+    refusals::tell(&rt)?;
+    println!(rt, "")?;
+    machine::tell(&rt)?;
+    println!(rt, "")?;
+    longtable::tell(&rt)
+}
