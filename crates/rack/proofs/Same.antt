@@ -3,7 +3,7 @@ use mathlib.Core.Path.{_≡_, refl, sym, ap, subst, _∙_}
 use mathlib.Core.Bool.{Bool, true, false}
 use mathlib.Core.List.{List, [], _∷_}
 use mathlib.Core.Logic.{_⊎_, inl, inr, ⊎-elim}
-use Prim.Native.Nat.{ℕ, zero, suc, _+_, _<_, _≤_}
+use Prim.Native.Nat.{ℕ, zero, suc, _<_, _≤_}
 use native.Mathlib.Omega.{arith}
 use Rattle.std.proofs.shelf.Tests.{cases-lt, cases-bool, both-ways}
 use Rattle.terms.specs.declared.terms.Terms.{Terms}
@@ -14,7 +14,7 @@ use Rattle.rack.specs.declared.placement.Status.{Status}
 use Rattle.rack.specs.declared.placement.Status.the-variants.{Passive, Active}
 use Rattle.rack.specs.declared.placement.Placement.{Placement}
 use Rattle.rack.specs.Plan.{In, number, Once, Plan}
-use Rattle.rack.specs.Day.{Day, invoked, late, work, Stop, no-stop, stops, halted}
+use Rattle.rack.specs.Day.{Day, invoked, Stop, no-stop, stops, halted}
 use Rattle.rack.specs.Run.{Slot, idle, runs, Run, hit, worked, Wakes, Standby-released, Released, Ready, Ahead, Keeps}
 
 -- a list in which no number stands twice has one placement of a number
