@@ -1,2 +1,3 @@
 pub mod Same
 pub mod Plays
+pub mod Tested
