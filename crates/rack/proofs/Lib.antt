@@ -1,2 +1,4 @@
 pub mod Same
 pub mod Plays
+pub mod Tested
+pub mod Parts
