@@ -1,1 +1,2 @@
 pub mod SumLaws
+pub mod Bound
