@@ -77,7 +77,7 @@ kept-before (stops f s) Primary p t u l kept = refl
 kept-before (stops f s) Standby p t u l kept =
     ⊎-elim
     (λ gone.
-        let parts = and-parts _ _ gone in
+        let parts = and-parts (leb s t) (active (p .status) && not (eqb (p .primary) f)) gone in
         absurd (both-ways _ kept (and-from _ _ (le-leb s u (omega (arith, leb-true s t (parts .0)))) (parts .1))))
     (λ still. still)
     (cases-bool (dropped (stops f s) Standby p t))

@@ -39,7 +39,7 @@ sum-least (suc n) f h = omega (arith, sum-least n f (λ u l. h u (omega arith)),
 
 -- a sum in two parts
 pub sum-split : (a b : ℕ) (f : ℕ → ℕ) → sumTo (a + b) f ≡ sumTo a f + sumTo b (λ u. f (a + u))
-sum-split a zero f = rw add-zero (omega arith)
+sum-split a zero f = rw (add-zero a) (omega arith)
 sum-split a (suc b) f = rw add-suc (omega (arith, sum-split a b f))
 
 -- one term is at most the sum
