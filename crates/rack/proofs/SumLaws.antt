@@ -2,8 +2,8 @@
 use mathlib.Core.Path.{_≡_, refl, sym, ap, _∙_}
 use mathlib.Core.Bool.{Bool, true, false, cond}
 use mathlib.Core.List.{List, [], _∷_}
-use mathlib.Core.Logic.{⊎-elim, inl, inr}
-use Prim.Native.Nat.{ℕ, zero, suc, _+_, _-_, _*_, _/_, _≤_, _<_}
+use mathlib.Core.Logic.{⊎-elim}
+use Prim.Native.Nat.{ℕ, zero, suc, _+_, _-_, _*_, _≤_, _<_}
 use native.Mathlib.Nat.{mul-le-mul-right, add-suc, add-zero}
 use native.Mathlib.Omega.{arith}
 use Rattle.std.proofs.shelf.Tests.{cases-lt}
@@ -25,7 +25,8 @@ sum-add (suc n) f g = omega (arith, sum-add n f g)
 -- two sums change places
 pub sum-swap : (n m : ℕ) (f : ℕ → ℕ → ℕ) → sumTo n (λ u. sumTo m (λ k. f u k)) ≡ sumTo m (λ k. sumTo n (λ u. f u k))
 sum-swap zero m f = sym (sum-zero m)
-sum-swap (suc n) m f = ap (λ z. z + sumTo m (λ k. f n k)) (sum-swap n m f) ∙ sym (sum-add m (λ k. sumTo n (λ u. f u k)) (λ k. f n k))
+sum-swap (suc n) m f =
+    ap (λ z. z + sumTo m (λ k. f n k)) (sum-swap n m f) ∙ sym (sum-add m (λ k. sumTo n (λ u. f u k)) (λ k. f n k))
 
 -- n terms of at most c
 pub sum-most : (n c : ℕ) (f : ℕ → ℕ) → ((u : ℕ) → u < n → f u ≤ c) → sumTo n f ≤ c * n
@@ -62,9 +63,12 @@ sum-over [] f = 0
 sum-over (c ∷ set) f = f c + sum-over set f
 
 -- a sum over numbers and a sum over a list change places
-pub sum-over-swap : {A : Type 0} (n : ℕ) (set : List A) (f : ℕ → A → ℕ) → sumTo n (λ u. sum-over set (λ c. f u c)) ≡ sum-over set (λ c. sumTo n (λ u. f u c))
+pub sum-over-swap :
+  {A : Type 0} (n : ℕ) (set : List A) (f : ℕ → A → ℕ) →
+  sumTo n (λ u. sum-over set (λ c. f u c)) ≡ sum-over set (λ c. sumTo n (λ u. f u c))
 sum-over-swap n [] f = sum-zero n
-sum-over-swap n (c ∷ set) f = sum-add n (λ u. f u c) (λ u. sum-over set (λ d. f u d)) ∙ ap (λ z. sumTo n (λ u. f u c) + z) (sum-over-swap n set f)
+sum-over-swap n (c ∷ set) f =
+    sum-add n (λ u. f u c) (λ u. sum-over set (λ d. f u d)) ∙ ap (λ z. sumTo n (λ u. f u c) + z) (sum-over-swap n set f)
 
 -- a member's term is at most the list's sum
 pub sum-over-one : {A : Type 0} (set : List A) (c : A) (f : A → ℕ) → In c set → f c ≤ sum-over set f
@@ -83,11 +87,15 @@ ceil-up a b h = omega arith
 pub ceil-least : (a b k : ℕ) → 1 ≤ b → a ≤ k * b → ceil a b ≤ k
 ceil-least a b k h l = omega (arith, div-below (a + (b - 1)) b (suc k) h (omega arith))
 
--- the call-ups that can be released in a window of x ticks: from a first one on, so many
-module _ (T L O from x k r : ℕ) (some : 1 ≤ T) (early : O + k * T ≤ r) (late : r ≤ O + k * T + L) (begins : from ≤ r) (ends : r < from + x) where
+-- call-up k of a copy with period T, lateness L and offset O is released at r, in a window of x ticks
+module _
+  (T L O from x k r : ℕ) (some : 1 ≤ T) (early : O + k * T ≤ r) (late : r ≤ O + k * T + L)
+  (begins : from ≤ r) (ends : r < from + x) where
+  -- then it is not before the first that can be
   pub window-low : ceil (from - (O + L)) T ≤ k
   window-low = ceil-least (from - (O + L)) T k some (omega arith)
 
+  -- and one of so many
   pub window-high : k < ceil (from - (O + L)) T + ceil (x + L) T
   window-high =
       ⊎-elim
