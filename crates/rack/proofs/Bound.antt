@@ -62,8 +62,8 @@ work-most day role t k = omega (arith, run-some role t)
 
 -- a standby is not released before its invocation
 standby-not-early :
-  (status : Status) (stop : Stop) (day : Day) (run : Run) (p : Placement) (k r : ℕ) →
-  Standby-released status day stop run p k r → invoked day (p .terms) k ≤ r
+    (status : Status) (stop : Stop) (day : Day) (run : Run) (p : Placement) (k r : ℕ) →
+    Standby-released status day stop run p k r → invoked day (p .terms) k ≤ r
 standby-not-early Active stop day run p k r e = omega (arith, e)
 standby-not-early Passive no-stop day run p k r e = absurd e
 standby-not-early Passive (stops f s) day run p k r e =
@@ -74,22 +74,22 @@ standby-not-early Passive (stops f s) day run p k r e =
 
 -- no copy is
 pub not-early :
-  (role : Role) (day : Day) (stop : Stop) (run : Run) (p : Placement) (k r : ℕ) →
-  Released day stop run role p k r → invoked day (p .terms) k ≤ r
+    (role : Role) (day : Day) (stop : Stop) (run : Run) (p : Placement) (k r : ℕ) →
+    Released day stop run role p k r → invoked day (p .terms) k ≤ r
 not-early Primary day stop run p k r e = omega (arith, e)
 not-early Standby day stop run p k r e = standby-not-early (p .status) stop day run p k r e
 
 -- what is dropped stays dropped
 kept-before :
-  (stop : Stop) (role : Role) (p : Placement) (t u : ℕ) → t ≤ u →
-  dropped stop role p u ≡ false → dropped stop role p t ≡ false
+    (stop : Stop) (role : Role) (p : Placement) (t u : ℕ) → t ≤ u →
+    dropped stop role p u ≡ false → dropped stop role p t ≡ false
 kept-before no-stop role p t u l kept = refl
 kept-before (stops f s) Primary p t u l kept = refl
 kept-before (stops f s) Standby p t u l kept =
     ⊎-elim
     (λ gone.
-        let parts = and-parts (leb s t) (active (p .status) && not (eqb (p .primary) f)) gone in
-        absurd (both-ways _ kept (and-from _ _ (le-leb s u (omega (arith, leb-true s t (parts .0)))) (parts .1))))
+    let parts = and-parts (leb s t) (active (p .status) && not (eqb (p .primary) f)) gone in
+    absurd (both-ways _ kept (and-from _ _ (le-leb s u (omega (arith, leb-true s t (parts .0)))) (parts .1))))
     (λ still. still)
     (cases-bool (dropped (stops f s) Standby p t))
 
@@ -99,15 +99,15 @@ same-placement [] once p q p-in q-in e = absurd p-in
 same-placement (a ∷ ps) once p q p-in q-in e =
     ⊎-elim
     (λ p-first.
-        ⊎-elim
-        (λ q-first. p-first ∙ sym q-first)
-        (λ q-later. absurd (once .0 q q-later (sym e ∙ ap number p-first)))
-        q-in)
+    ⊎-elim
+    (λ q-first. p-first ∙ sym q-first)
+    (λ q-later. absurd (once .0 q q-later (sym e ∙ ap number p-first)))
+    q-in)
     (λ p-later.
-        ⊎-elim
-        (λ q-first. absurd (once .0 p p-later (e ∙ ap number q-first)))
-        (λ q-later. same-placement ps (once .1) p q p-later q-later e)
-        q-in)
+    ⊎-elim
+    (λ q-first. absurd (once .0 p p-later (e ∙ ap number q-first)))
+    (λ q-later. same-placement ps (once .1) p q p-later q-later e)
+    q-in)
     p-in
 
 -- a machine has one copy of a job at most
@@ -119,17 +119,17 @@ one-role m p placed Standby Standby e = refl
 
 -- up to tick H, machine g is described by a set of copies, with the lateness that each copy has there
 pub record Described
-  (ps : List Placement) (day : Day) (stop : Stop) (run : Run) (g H : ℕ) (late-of : Role → Placement → ℕ) (set : List JobCopy) : Type 0 where
+    (ps : List Placement) (day : Day) (stop : Stop) (run : Run) (g H : ℕ) (late-of : Role → Placement → ℕ) (set : List JobCopy) : Type 0 where
   -- only copies that stand on g are in the set
   pub stands : (c : JobCopy) → In c set → (q : Placement) × In q ps × (c .terms ≡ q .terms) × (machine (c .role) q ≡ g)
   -- a copy on g that is released before H is in the set, and as late as it says at most
   pub releases :
-    (q : Placement) → In q ps → (role : Role) → machine role q ≡ g → (k r : ℕ) → Released day stop run role q k r → r < H →
-    In (copy-of role q (late-of role q)) set × (r ≤ invoked day (q .terms) k + late-of role q)
+      (q : Placement) → In q ps → (role : Role) → machine role q ≡ g → (k r : ℕ) → Released day stop run role q k r → r < H →
+      In (copy-of role q (late-of role q)) set × (r ≤ invoked day (q .terms) k + late-of role q)
 
 module _
-  (before : Terms → Terms → Bool) (laws : Laws before) (m : ℕ) (ps : List Placement) (plan : Plan m ps)
-  (day : Day) (stop : Stop) (run : Run) (keeps : Keeps before ps day stop run) (g : ℕ) where
+    (before : Terms → Terms → Bool) (laws : Laws before) (m : ℕ) (ps : List Placement) (plan : Plan m ps)
+    (day : Day) (stop : Stop) (run : Run) (keeps : Keeps before ps day stop run) (g : ℕ) where
   -- what runs on g is ready there
   ready-now : (p : Placement) → In p ps → (k t : ℕ) → run g t ≡ runs (number p) k → Ready day stop run g p k t
   ready-now p p-in k t is =
@@ -139,13 +139,13 @@ module _
 
   -- and in the role that the job has there
   ready-in-role :
-    (p : Placement) → In p ps → (role : Role) → machine role p ≡ g → (k t : ℕ) → run g t ≡ runs (number p) k →
-    (since : ℕ) × Released day stop run role p k since × (since ≤ t) × (worked run g (number p) k t < work day role (p .terms) k)
+      (p : Placement) → In p ps → (role : Role) → machine role p ≡ g → (k t : ℕ) → run g t ≡ runs (number p) k →
+      (since : ℕ) × Released day stop run role p k since × (since ≤ t) × (worked run g (number p) k t < work day role (p .terms) k)
   ready-in-role p p-in role here k t is =
       let ready = ready-now p p-in k t is in
       let as-here : ready .role ≡ role = one-role m p (plan .placed p p-in) (ready .role) role (ready .here ∙ sym here) in
       subst (λ z. (since : ℕ) × Released day stop run z p k since × (since ≤ t) × (worked run g (number p) k t < work day z (p .terms) k)) as-here
-        (ready .since, ready .released, ready .begun, ready .unfinished)
+      (ready .since, ready .released, ready .begun, ready .unfinished)
 
   -- a call-up never gets more than its work
   worked-most : (p : Placement) → In p ps → (role : Role) → machine role p ≡ g → (k t : ℕ) → worked run g (number p) k t ≤ work day role (p .terms) k
@@ -166,24 +166,24 @@ module _
       ⊎-elim
       (λ nothing. inr (λ h. let e = h .3 in let z : _≡_ {A = ℕ} 0 1 = cc in omega arith))
       (λ some.
-          let found = keeps .only-ready g t (some .0) (some .1) (some .2) in
-          ⊎-elim
-          (λ yes′. inl (found .0, some .1, found .1, runs-as (some .2) (sym (found .2)) refl, yes′))
-          (λ no′.
-              inr
-              (λ h.
-                  let e = h .3 in
-                  let d = some .2 in
-                  let n : some .0 ≡ number (h .0) = cc in
-                  let same : h .0 ≡ found .0 = same-placement ps (plan .once) (h .0) (found .0) (h .2) (found .1) (sym n ∙ sym (found .2)) in
-                  both-ways _ no′ (ap (λ z. before (z .terms) (p .terms)) (sym same) ∙ h .4)))
-          (cases-bool (before (found .0 .terms) (p .terms))))
+      let found = keeps .only-ready g t (some .0) (some .1) (some .2) in
+      ⊎-elim
+      (λ yes′. inl (found .0, some .1, found .1, runs-as (some .2) (sym (found .2)) refl, yes′))
+      (λ no′.
+      inr
+      (λ h.
+      let e = h .3 in
+      let d = some .2 in
+      let n : some .0 ≡ number (h .0) = cc in
+      let same : h .0 ≡ found .0 = same-placement ps (plan .once) (h .0) (found .0) (h .2) (found .1) (sym n ∙ sym (found .2)) in
+      both-ways _ no′ (ap (λ z. before (z .terms) (p .terms)) (sym same) ∙ h .4)))
+      (cases-bool (before (found .0 .terms) (p .terms))))
       (slot-cases (run g t))
 
   -- the ticks just before r in which only jobs that go before p run
   busy-start :
-    (p : Placement) (r : ℕ) →
-    (from : ℕ) × (from ≤ r) × ((t : ℕ) → from ≤ t → t < r → Higher p t) × ((u : ℕ) → suc u ≡ from → Higher p u → ⊥)
+      (p : Placement) (r : ℕ) →
+      (from : ℕ) × (from ≤ r) × ((t : ℕ) → from ≤ t → t < r → Higher p t) × ((u : ℕ) → suc u ≡ from → Higher p u → ⊥)
   busy-start p zero = (0, omega arith, (λ t a b. absurd (omega arith)), (λ u e h. absurd (omega arith)))
   busy-start p (suc r) =
       let rest = busy-start p r in
@@ -207,14 +207,14 @@ module _
       (higher-or-not p r)
 
   module _
-    (H : ℕ) (goes : (t : ℕ) → t < H → halted stop g t ≡ false)
-    (late-of : Role → Placement → ℕ) (set : List JobCopy) (described : Described ps day stop run g H late-of set) where
+      (H : ℕ) (goes : (t : ℕ) → t < H → halted stop g t ≡ false)
+      (late-of : Role → Placement → ℕ) (set : List JobCopy) (described : Described ps day stop run g H late-of set) where
     -- one call-up takes no more than its copy is charged
     copy-most : (c : JobCopy) → In c set → (k t : ℕ) → worked run g (c .terms .number) k t ≤ charge c
     copy-most c c-in k t =
         let at = described .stands c c-in in
         let most : worked run g (number (at .0)) k t ≤ run-of (c .role) (at .0 .terms) =
-          omega (arith, worked-most (at .0) (at .1) (c .role) (at .3) k t, work-most day (c .role) (at .0 .terms) k)
+        omega (arith, worked-most (at .0) (at .1) (c .role) (at .3) k t, work-most day (c .role) (at .0 .terms) k)
         in
         subst (λ (z : Terms). worked run g (z .number) k t ≤ run-of (c .role) z) (sym (at .2)) most
 
@@ -243,8 +243,8 @@ module _
 
     -- a sum whose terms are at most what each copy can hold off
     held-most :
-      (part : List JobCopy) (own : JobCopy) (x : ℕ) (f : JobCopy → ℕ) → ((c : JobCopy) → In c part → f c ≤ held-off before c own x) →
-      sum-over part f ≤ all-held-off before part own x
+        (part : List JobCopy) (own : JobCopy) (x : ℕ) (f : JobCopy → ℕ) → ((c : JobCopy) → In c part → f c ≤ held-off before c own x) →
+        sum-over part f ≤ all-held-off before part own x
     held-most [] own x f h = omega arith
     held-most (c ∷ part) own x f h = omega (arith, h c (inl refl), held-most part own x f (λ d d-in. h d (inr d-in)))
 
@@ -257,9 +257,9 @@ module _
 
     -- a higher job's call-up that is released in the window counts
     counts :
-      (p : Placement) (from x : ℕ) (q : Placement) (role : Role) (k r : ℕ) (slot : Slot) →
-      In q ps → machine role q ≡ g → before (q .terms) (p .terms) ≡ true → slot ≡ runs (number q) k →
-      Released day stop run role q k r → r < H → from ≤ r → r < from + x → 1 ≤ all (p .terms) from x slot
+        (p : Placement) (from x : ℕ) (q : Placement) (role : Role) (k r : ℕ) (slot : Slot) →
+        In q ps → machine role q ≡ g → before (q .terms) (p .terms) ≡ true → slot ≡ runs (number q) k →
+        Released day stop run role q k r → r < H → from ≤ r → r < from + x → 1 ≤ all (p .terms) from x slot
     counts p from x q role k r slot q-in here higher is released below begins ends =
         let c : JobCopy = copy-of role q (late-of role q) in
         let known = described .releases q q-in role here k r released below in
@@ -272,7 +272,7 @@ module _
         let j : ℕ = k - first from c in
         let place : first from c + j ≡ k = omega arith in
         let one : hit slot (number q) (first from c + j) ≡ 1 =
-          ap (hit slot (number q)) place ∙ ap (λ z. hit z (number q) k) is ∙ hit-same (number q) k
+        ap (hit slot (number q)) place ∙ ap (λ z. hit z (number q) k) is ∙ hit-same (number q) k
         in
         let inner = sum-one (many x c) j (λ n. hit slot (number q) (first from c + n)) (omega arith) in
         let outer = sum-over-one set c (λ d. cond (before (d .terms) (p .terms)) (ours from x slot d) 0) (known .0) in
@@ -280,50 +280,50 @@ module _
 
     -- what runs while a higher job is ready is higher too
     ahead-higher :
-      (p q : Placement) (k t : ℕ) → t < H → In q ps → before (q .terms) (p .terms) ≡ true →
-      Ready day stop run g q k t → Higher p t
+        (p q : Placement) (k t : ℕ) → t < H → In q ps → before (q .terms) (p .terms) ≡ true →
+        Ready day stop run g q k t → Higher p t
     ahead-higher p q k t below q-in higher ready =
         let top = keeps .most-urgent g t q k (goes t below) q-in ready in
         ⊎-elim
         (λ more. (top .0, top .1, top .2, top .3, laws .transitive (top .0 .terms) (q .terms) (p .terms) more higher))
         (λ same.
-            let is-q : top .0 ≡ q = same-placement ps (plan .once) (top .0) q (top .2) q-in (same .0) in
-            (top .0, top .1, top .2, top .3, ap (λ z. before (z .terms) (p .terms)) is-q ∙ higher))
+        let is-q : top .0 ≡ q = same-placement ps (plan .once) (top .0) q (top .2) q-in (same .0) in
+        (top .0, top .1, top .2, top .3, ap (λ z. before (z .terms) (p .terms)) is-q ∙ higher))
         (top .4)
 
     -- with no higher job running right before from, what is ready later of a higher job was released at or after from
     released-since :
-      (p : Placement) (from t : ℕ) (q : Placement) (k : ℕ) → ((u : ℕ) → suc u ≡ from → Higher p u → ⊥) →
-      from ≤ t → t < H → In q ps → before (q .terms) (p .terms) ≡ true →
-      (ready : Ready day stop run g q k t) → from ≤ ready .since
+        (p : Placement) (from t : ℕ) (q : Placement) (k : ℕ) → ((u : ℕ) → suc u ≡ from → Higher p u → ⊥) →
+        from ≤ t → t < H → In q ps → before (q .terms) (p .terms) ≡ true →
+        (ready : Ready day stop run g q k t) → from ≤ ready .since
     released-since p from t q k none begins below q-in higher ready =
         ⊎-elim
         (λ less.
-            let u : ℕ = from - 1 in
-            let earlier : Ready day stop run g q k u = record {
-              role = ready .role;
-              here = ready .here;
-              since = ready .since;
-              released = ready .released;
-              begun = omega arith;
-              unfinished = omega (arith, worked-mono run g (number q) k u t (omega arith), ready .unfinished);
-              kept = kept-before stop (ready .role) q u t (omega arith) (ready .kept);
-            } in
-            absurd (none u (omega arith) (ahead-higher p q k u (omega arith) q-in higher earlier)))
+        let u : ℕ = from - 1 in
+        let earlier : Ready day stop run g q k u = record {
+          role = ready .role;
+          here = ready .here;
+          since = ready .since;
+          released = ready .released;
+          begun = omega arith;
+          unfinished = omega (arith, worked-mono run g (number q) k u t (omega arith), ready .unfinished);
+          kept = kept-before stop (ready .role) q u t (omega arith) (ready .kept);
+        } in
+        absurd (none u (omega arith) (ahead-higher p q k u (omega arith) q-in higher earlier)))
         (λ most. most)
         (cases-lt (ready .since) from)
 
     module _
-      (role : Role) (p : Placement) (p-in : In p ps) (here : machine role p ≡ g) (never-dropped : (t : ℕ) → dropped stop role p t ≡ false)
-      (x : ℕ) (holds : demand before set (copy-of role p (late-of role p)) x ≤ x) (in-time : x + late-of role p ≤ p .terms .period) where
+        (role : Role) (p : Placement) (p-in : In p ps) (here : machine role p ≡ g) (never-dropped : (t : ℕ) → dropped stop role p t ≡ false)
+        (x : ℕ) (holds : demand before set (copy-of role p (late-of role p)) x ≤ x) (in-time : x + late-of role p ≤ p .terms .period) where
       -- call-up k is finished within the window
       abbrev Done : ℕ → Type 0
       Done k = (r : ℕ) → Released day stop run role p k r → r + x ≤ H → work day role (p .terms) k ≤ worked run g (number p) k (r + x)
 
       -- once the earlier call-ups are done and call-up k is not
       module _
-        (k : ℕ) (earlier : (j : ℕ) → j < k → Done j) (r : ℕ) (released : Released day stop run role p k r) (within : r + x ≤ H)
-        (undone : worked run g (number p) k (r + x) < work day role (p .terms) k) where
+          (k : ℕ) (earlier : (j : ℕ) → j < k → Done j) (r : ℕ) (released : Released day stop run role p k r) (within : r + x ≤ H)
+          (undone : worked run g (number p) k (r + x) < work day role (p .terms) k) where
         -- an earlier call-up runs no more from r on
         earlier-gone : (j t : ℕ) → j < k → r ≤ t → t < H → run g t ≡ runs (number p) j → ⊥
         earlier-gone j t less begins below is =
@@ -350,10 +350,10 @@ module _
             ⊎-elim
             (λ more. inl (top .0, top .1, top .2, top .3, more))
             (λ same.
-                ⊎-elim
-                (λ less. absurd (earlier-gone (top .1) t less begins (omega arith) (runs-as (top .3) (same .0) refl)))
-                (λ most. let e : top .1 ≡ k = omega (arith, same .1) in inr (runs-as (top .3) (same .0) e))
-                (cases-lt (top .1) k))
+            ⊎-elim
+            (λ less. absurd (earlier-gone (top .1) t less begins (omega arith) (runs-as (top .3) (same .0) refl)))
+            (λ most. let e : top .1 ≡ k = omega (arith, same .1) in inr (runs-as (top .3) (same .0) e))
+            (cases-lt (top .1) k))
             (top .4)
 
         -- then the window holds more than is asked of it
@@ -364,25 +364,25 @@ module _
             let from-r : from ≤ r = start .1 in
             let term : ℕ → ℕ = λ u. all (p .terms) from x (run g (from + u)) + hit (run g (from + u)) (number p) k in
             let by-higher : (u : ℕ) → u < x → Higher p (from + u) → 1 ≤ term u =
-              λ u l h.
-                  let ready = ready-now (h .0) (h .2) (h .1) (from + u) (h .3) in
-                  let since = released-since p from (from + u) (h .0) (h .1) (start .3) (omega arith) (omega arith) (h .2) (h .4) ready in
-                  let one =
-                    counts p from x (h .0) (ready .role) (h .1) (ready .since) (run g (from + u)) (h .2) (ready .here) (h .4) (h .3) (ready .released)
-                      (omega (arith, ready .begun)) since (omega (arith, ready .begun))
-                  in
-                  omega (arith, one)
+            λ u l h.
+            let ready = ready-now (h .0) (h .2) (h .1) (from + u) (h .3) in
+            let since = released-since p from (from + u) (h .0) (h .1) (start .3) (omega arith) (omega arith) (h .2) (h .4) ready in
+            let one =
+            counts p from x (h .0) (ready .role) (h .1) (ready .since) (run g (from + u)) (h .2) (ready .here) (h .4) (h .3) (ready .released)
+            (omega (arith, ready .begun)) since (omega (arith, ready .begun))
+            in
+            omega (arith, one)
             in
             let each : (u : ℕ) → u < x → 1 ≤ term u =
-              λ u l.
-                  ⊎-elim
-                  (λ less. by-higher u l (start .2 (from + u) (omega arith) less))
-                  (λ most.
-                      ⊎-elim
-                      (λ h. by-higher u l h)
-                      (λ is. omega (arith, ap (λ z. hit z (number p) k) is ∙ hit-same (number p) k))
-                      (own-or-higher (from + u) most (omega arith)))
-                  (cases-lt (from + u) r)
+            λ u l.
+            ⊎-elim
+            (λ less. by-higher u l (start .2 (from + u) (omega arith) less))
+            (λ most.
+            ⊎-elim
+            (λ h. by-higher u l h)
+            (λ is. omega (arith, ap (λ z. hit z (number p) k) is ∙ hit-same (number p) k))
+            (own-or-higher (from + u) most (omega arith)))
+            (cases-lt (from + u) r)
             in
             omega (
               arith,
@@ -391,7 +391,7 @@ module _
               all-most (copy-of role p (late-of role p)) from x,
               sum-split from x (λ v. hit (run g v) (number p) k),
               worked-mono run g (number p) k (from + x) (r + x) (omega arith),
-              work-most day role (p .terms) k
+              work-most day role (p .terms) k,
             )
 
       -- strong induction on the call-up
@@ -405,13 +405,13 @@ module _
 
 -- the bound: released at r, finished by r + x, where x holds what is asked of it and ends within the period
 pub finished-within :
-  (before : Terms → Terms → Bool) → Laws before → (m : ℕ) (ps : List Placement) → Plan m ps →
-  (day : Day) (stop : Stop) (run : Run) → Keeps before ps day stop run →
-  (role : Role) (p : Placement) → In p ps → ((t : ℕ) → dropped stop role p t ≡ false) →
-  (H : ℕ) → ((t : ℕ) → t < H → halted stop (machine role p) t ≡ false) →
-  (late-of : Role → Placement → ℕ) (set : List JobCopy) → Described ps day stop run (machine role p) H late-of set →
-  (x : ℕ) → demand before set (copy-of role p (late-of role p)) x ≤ x → x + late-of role p ≤ p .terms .period →
-  (k r : ℕ) → Released day stop run role p k r → r + x ≤ H → Finished day run role p k (r + x)
+    (before : Terms → Terms → Bool) → Laws before → (m : ℕ) (ps : List Placement) → Plan m ps →
+    (day : Day) (stop : Stop) (run : Run) → Keeps before ps day stop run →
+    (role : Role) (p : Placement) → In p ps → ((t : ℕ) → dropped stop role p t ≡ false) →
+    (H : ℕ) → ((t : ℕ) → t < H → halted stop (machine role p) t ≡ false) →
+    (late-of : Role → Placement → ℕ) (set : List JobCopy) → Described ps day stop run (machine role p) H late-of set →
+    (x : ℕ) → demand before set (copy-of role p (late-of role p)) x ≤ x → x + late-of role p ≤ p .terms .period →
+    (k r : ℕ) → Released day stop run role p k r → r + x ≤ H → Finished day run role p k (r + x)
 finished-within before laws m ps plan day stop run keeps role p p-in never-dropped H goes late-of set described x holds in-time k r released within =
     done-below before laws m ps plan day stop run keeps (machine role p) H goes late-of set described
-      role p p-in refl never-dropped x holds in-time (suc k) k (omega arith) r released within
+    role p p-in refl never-dropped x holds in-time (suc k) k (omega arith) r released within

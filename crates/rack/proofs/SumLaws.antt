@@ -64,8 +64,8 @@ sum-over (c ∷ set) f = f c + sum-over set f
 
 -- a sum over numbers and a sum over a list change places
 pub sum-over-swap :
-  {A : Type 0} (n : ℕ) (set : List A) (f : ℕ → A → ℕ) →
-  sumTo n (λ u. sum-over set (λ c. f u c)) ≡ sum-over set (λ c. sumTo n (λ u. f u c))
+    {A : Type 0} (n : ℕ) (set : List A) (f : ℕ → A → ℕ) →
+    sumTo n (λ u. sum-over set (λ c. f u c)) ≡ sum-over set (λ c. sumTo n (λ u. f u c))
 sum-over-swap n [] f = sum-zero n
 sum-over-swap n (c ∷ set) f =
     sum-add n (λ u. f u c) (λ u. sum-over set (λ d. f u d)) ∙ ap (λ z. sumTo n (λ u. f u c) + z) (sum-over-swap n set f)
@@ -89,8 +89,8 @@ ceil-least a b k h l = omega (arith, div-below (a + (b - 1)) b (suc k) h (omega 
 
 -- call-up k of a copy with period T, lateness L and offset O is released at r, in a window of x ticks
 module _
-  (T L O from x k r : ℕ) (some : 1 ≤ T) (early : O + k * T ≤ r) (late : r ≤ O + k * T + L)
-  (begins : from ≤ r) (ends : r < from + x) where
+    (T L O from x k r : ℕ) (some : 1 ≤ T) (early : O + k * T ≤ r) (late : r ≤ O + k * T + L)
+    (begins : from ≤ r) (ends : r < from + x) where
   -- then it is not before the first that can be
   pub window-low : ceil (from - (O + L)) T ≤ k
   window-low = ceil-least (from - (O + L)) T k some (omega arith)
@@ -101,7 +101,7 @@ module _
       ⊎-elim
       (λ less. less)
       (λ most.
-          let a = ceil-up (from - (O + L)) T some in
-          let b = ceil-up (x + L) T some in
-          absurd (omega (arith, mul-le-mul-right T most)))
+      let a = ceil-up (from - (O + L)) T some in
+      let b = ceil-up (x + L) T some in
+      absurd (omega (arith, mul-le-mul-right T most)))
       (cases-lt k (ceil (from - (O + L)) T + ceil (x + L) T))
