@@ -1,3 +1,6 @@
+pub mod SumLaws
+pub mod Bound
+pub mod Covers
 pub mod Same
 pub mod Plays
 pub mod Tested
