@@ -12,8 +12,8 @@ use Rattle.std.specs.declared.option.Option.the-variants.{Some, None}
 use Rattle.terms.specs.declared.terms.Terms.{Terms}
 use Rattle.figures.specs.declared.copies.JobCopy.{JobCopy}
 use Rattle.figures.specs.Demand.{charge, demand}
-use Rattle.figures.specs.Window.{Window}
-use Rattle.figures.specs.Figure.{Figured, climb, figure-of}
+use Rattle.figures.specs.Window.{Window, Windowed}
+use Rattle.figures.specs.Figure.{Figured, climb, figure-of, with-lateness}
 use Rattle.figures.proofs.Demands.{charge-some, demand-mono}
 
 module _ (before : Terms → Terms → Bool) (set : List JobCopy) (own : JobCopy) where
@@ -70,3 +70,8 @@ module _ (before : Terms → Terms → Bool) (set : List JobCopy) (own : JobCopy
 
   pub figure-is : (r : Option ℕ) → Figured before set own r → r ≡ figure-of before set own
   figure-is r f = figured-same r (figure-of before set own) f figure-figured
+
+  -- a window and the lateness are the figure
+  pub figure-with : (r : Option ℕ) → Windowed before set own r → with-lateness own r ≡ figure-of before set own
+  figure-with None w = figure-is None w
+  figure-with (Some x) w = figure-is (Some (x + own .lateness)) (x, w .0, refl, w .1)

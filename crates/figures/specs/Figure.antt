@@ -16,6 +16,11 @@ abbrev pub Figured : (Terms → Terms → Bool) → List JobCopy → JobCopy →
 Figured before set own None = (x : ℕ) → Window before set own x → own .terms .deadline < x + own .lateness
 Figured before set own (Some f) = (x : ℕ) × Window before set own x × (f ≡ x + own .lateness) × (f ≤ own .terms .deadline)
 
+-- a window, if there is one, and the copy's own lateness
+abbrev pub with-lateness : JobCopy → Option ℕ → Option ℕ
+with-lateness own None = None
+with-lateness own (Some x) = Some (x + own .lateness)
+
 -- and how it computes: from x on, up to the first number that repeats itself, or past the deadline
 abbrev pub climb : (Terms → Terms → Bool) → List JobCopy → JobCopy → ℕ → ℕ → Option ℕ
 climb before set own zero x = None

@@ -1,8 +1,8 @@
-ghost use Prim.Native.Nat.{_<_, _≤_};
+ghost use Prim.Native.Nat.{_+_, _<_, _≤_};
 ghost use mathlib.Core.Path.{_≡_};
 ghost use Rattle.std.specs.Options.{Cases};
-ghost use Rattle.figures.specs.Demand.{charge, demand, held-off, work-in};
-ghost use Rattle.figures.specs.Figure.{Figured, figure-of};
+ghost use Rattle.figures.specs.Demand.{ceil, charge, demand, held-off, work-in};
+ghost use Rattle.figures.specs.Figure.{Figured, figure-of, with-lateness};
 ghost use Rattle.figures.specs.Lighter.{NoLonger};
 ghost use Rattle.figures.specs.Window.{Windowed};
 use crate::copies::JobCopy;
@@ -20,15 +20,22 @@ fn charge_of(copy: &JobCopy) -> u32
     }
 }
 
+// How many releases can fall into a window of x ticks.
+fn releases(x: u64, lateness: u32, period: u32) -> u64
+    requires { ⌜ (x ≤ 1000000) × (1 ≤ period) ⌝ }
+    ensures { λ r. ⌜ r ≡ ceil (x + lateness) period ⌝ }
+{
+    let period = u64::from(period);
+    (x + u64::from(lateness) + (period - 1)) / period
+}
+
 // The most work of the copy that can fall into a window of x ticks.
 fn share(copy: &JobCopy, x: u64) -> u64
     requires { ⌜ x ≤ 1000000 ⌝ }
     ensures value { λ r. ⌜ r ≡ work-in (now (copy .entry)) x ⌝ }
     ensures small { λ r. ⌜ r ≤ 5000000000000000 ⌝ }
 {
-    let period = u64::from(copy.terms.period());
-    let releases = (x + u64::from(copy.lateness) + (period - 1)) / period;
-    u64::from(charge_of(copy)) * releases
+    u64::from(charge_of(copy)) * releases(x, copy.lateness, copy.terms.period())
 }
 
 // What the copy takes of a window of `own`: nothing, unless it goes before.
@@ -69,8 +76,8 @@ fn demand_within<R: Precedence>(
     Some(total)
 }
 
-// The copy's window in the set: the least x with x = demand in x, if it ends within the deadline.
-pub fn window<R: Precedence>(rule: &R, set: &[JobCopy], own: &JobCopy) -> Option<u32>
+// The least x with x = demand in x, if with the copy's lateness it ends within the deadline.
+fn search<R: Precedence>(rule: &R, set: &[JobCopy], own: &JobCopy) -> Option<u32>
     ensures { λ r. ⌜ Windowed (R·Precedence .before (now (rule .entry))) (now (set .entry)) (now (own .entry)) r ⌝ }
 {
     if own.lateness > own.terms.deadline() {
@@ -95,13 +102,31 @@ pub fn window<R: Precedence>(rule: &R, set: &[JobCopy], own: &JobCopy) -> Option
     found
 }
 
+// The search's answer, and the laws of the figure that it gives.
+fn searched<R: Precedence>(rule: &R, set: &[JobCopy], own: &JobCopy) -> Option<u32>
+    ensures means { λ r. ⌜ Windowed (R·Precedence .before (now (rule .entry))) (now (set .entry)) (now (own .entry)) r ⌝ }
+    ensures value { λ r. ⌜ with-lateness (now (own .entry)) r ≡ figure-of (R·Precedence .before (now (rule .entry))) (now (set .entry)) (now (own .entry)) ⌝ }
+    ensures least { λ _. ⌜ Figured (R·Precedence .before (now (rule .entry))) (now (set .entry)) (now (own .entry)) (figure-of (R·Precedence .before (now (rule .entry))) (now (set .entry)) (now (own .entry))) ⌝ }
+    ensures lighter { λ _. ⌜ NoLonger (R·Precedence .before (now (rule .entry))) (now (set .entry)) (now (own .entry)) (figure-of (R·Precedence .before (now (rule .entry))) (now (set .entry)) (now (own .entry))) ⌝ }
+{
+    search(rule, set, own)
+}
+
+// The copy's window in the set, if with the copy's lateness it ends within the deadline.
+pub fn window<R: Precedence>(rule: &R, set: &[JobCopy], own: &JobCopy) -> Option<u32>
+    ensures { λ r. ⌜ Windowed (R·Precedence .before (now (rule .entry))) (now (set .entry)) (now (own .entry)) r ⌝ }
+{
+    searched(rule, set, own)
+}
+
 // The copy's figure in the set: its window and its lateness, if that is within the deadline.
+// What it means is that of a least window; and less work never makes it larger.
 pub fn figure<R: Precedence>(rule: &R, set: &[JobCopy], own: &JobCopy) -> Option<u32>
     ensures value { λ r. ⌜ r ≡ figure-of (R·Precedence .before (now (rule .entry))) (now (set .entry)) (now (own .entry)) ⌝ }
-    ensures means { λ r. ⌜ Figured (R·Precedence .before (now (rule .entry))) (now (set .entry)) (now (own .entry)) r ⌝ }
-    ensures lighter { λ r. ⌜ NoLonger (R·Precedence .before (now (rule .entry))) (now (set .entry)) (now (own .entry)) r ⌝ }
+    ensures least { λ _. ⌜ Figured (R·Precedence .before (now (rule .entry))) (now (set .entry)) (now (own .entry)) (figure-of (R·Precedence .before (now (rule .entry))) (now (set .entry)) (now (own .entry))) ⌝ }
+    ensures lighter { λ _. ⌜ NoLonger (R·Precedence .before (now (rule .entry))) (now (set .entry)) (now (own .entry)) (figure-of (R·Precedence .before (now (rule .entry))) (now (set .entry)) (now (own .entry))) ⌝ }
 {
-    match window(rule, set, own) {
+    match searched(rule, set, own) {
         None => None,
         Some(x) => Some(x + own.lateness),
     }

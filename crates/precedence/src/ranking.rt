@@ -1,7 +1,8 @@
 ghost use mathlib.Core.Path.{_≡_};
+ghost use lib.ListN.{take};
 ghost use Rattle.std.specs.Of.Vec.{vec-items};
 ghost use Rattle.std.specs.Vec.{made};
-ghost use Rattle.precedence.specs.Rankings.{place, ranking-before};
+ghost use Rattle.precedence.specs.Rankings.{index, place, ranking-before};
 use crate::precedence::Precedence;
 use std::alloc::AllocError;
 use std::alloc::Global;
@@ -23,17 +24,33 @@ impl Ranking {
     }
 }
 
-// Where the number is first mentioned among the first 32 entries; how many those are where it is not.
-fn place_of(list: &[u32], number: u32) -> usize
-    ensures { λ r. ⌜ r ≡ place (now (list .entry)) number ⌝ }
+// The entries that count: the first 32.
+fn counted(list: &[u32]) -> &[u32]
+    ensures { λ r. ⌜ now r ≡ take 32 (now (list .entry)) ⌝ }
 {
-    let n = list.len().min(32);
-    for i in 0..n {
-        if list[i] == number {
+    if list.len() > 32 {
+        let (front, _) = list.split_at(32);
+        return front;
+    }
+    list
+}
+
+// Where the number is first mentioned; the list's length where it is not.
+fn index_of(list: &[u32], number: u32) -> usize
+    ensures { λ r. ⌜ r ≡ index (now (list .entry)) number ⌝ }
+{
+    for (i, entry) in list.iter().enumerate() {
+        if *entry == number {
             return i;
         }
     }
-    n
+    list.len()
+}
+
+fn place_of(list: &[u32], number: u32) -> usize
+    ensures { λ r. ⌜ r ≡ place (now (list .entry)) number ⌝ }
+{
+    index_of(counted(list), number)
 }
 
 pub impl Precedence for Ranking as RankingPrecedence {

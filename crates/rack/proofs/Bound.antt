@@ -18,7 +18,7 @@ use Rattle.figures.proofs.Demands.{run-some, period-some}
 use Rattle.rack.specs.declared.placement.Status.{Status}
 use Rattle.rack.specs.declared.placement.Status.the-variants.{Passive, Active}
 use Rattle.rack.specs.declared.placement.Placement.{Placement}
-use Rattle.rack.specs.Plan.{In, number, active, machine, Once, Placed, Plan}
+use Rattle.rack.specs.Plan.{In, number, active, machine, Once, Placed, Arranged}
 use Rattle.rack.specs.Day.{Day, invoked, late, work, Stop, no-stop, stops, halted}
 use Rattle.rack.specs.Run.{Slot, idle, runs, Run, sumTo, hit, worked, Finished, Standby-released, Released, dropped, Ready, Keeps}
 use Rattle.rack.specs.Sets.{copy-of}
@@ -128,7 +128,7 @@ pub record Described
       In (copy-of role q (late-of role q)) set × (r ≤ invoked day (q .terms) k + late-of role q)
 
 module _
-    (before : Terms → Terms → Bool) (laws : Laws before) (m : ℕ) (ps : List Placement) (plan : Plan m ps)
+    (before : Terms → Terms → Bool) (laws : Laws before) (m : ℕ) (ps : List Placement) (plan : Arranged m ps)
     (day : Day) (stop : Stop) (run : Run) (keeps : Keeps before ps day stop run) (g : ℕ) where
   -- what runs on g is ready there
   ready-now : (p : Placement) → In p ps → (k t : ℕ) → run g t ≡ runs (number p) k → Ready day stop run g p k t
@@ -405,7 +405,7 @@ module _
 
 -- the bound: released at r, finished by r + x, where x holds what is asked of it and ends within the period
 pub finished-within :
-    (before : Terms → Terms → Bool) → Laws before → (m : ℕ) (ps : List Placement) → Plan m ps →
+    (before : Terms → Terms → Bool) → Laws before → (m : ℕ) (ps : List Placement) → Arranged m ps →
     (day : Day) (stop : Stop) (run : Run) → Keeps before ps day stop run →
     (role : Role) (p : Placement) → In p ps → ((t : ℕ) → dropped stop role p t ≡ false) →
     (H : ℕ) → ((t : ℕ) → t < H → halted stop (machine role p) t ≡ false) →

@@ -21,7 +21,7 @@ use Rattle.figures.proofs.Climbs.{figure-figured}
 use Rattle.rack.specs.declared.placement.Status.{Status}
 use Rattle.rack.specs.declared.placement.Status.the-variants.{Passive, Active}
 use Rattle.rack.specs.declared.placement.Placement.{Placement}
-use Rattle.rack.specs.Plan.{In, number, active, machine, Placed, Plan}
+use Rattle.rack.specs.Plan.{In, number, active, machine, Placed, Arranged}
 use Rattle.rack.specs.Day.{Day, invoked, due, late, work, Stop, no-stop, stops, Within, halted}
 use Rattle.rack.specs.Run.{Run, worked, Finished, Wakes, Standby-released, Released, dropped, Keeps}
 use Rattle.rack.specs.Sets.{copy-of, primary-copy, gather, quiet-part, quiet, passive-late, standby-late, standby-copy, loss-part, loss}
@@ -188,7 +188,7 @@ others-go : (f s g : ℕ) → (f ≡ g → ⊥) → (t : ℕ) → halted (stops 
 others-go f s g other t = and-left _ _ (ne-eqb f g other)
 
 module _
-    (before : Terms → Terms → Bool) (laws : Laws before) (m : ℕ) (ps : List Placement) (plan : Plan m ps)
+    (before : Terms → Terms → Bool) (laws : Laws before) (m : ℕ) (ps : List Placement) (plan : Arranged m ps)
     (passes : Passes before m ps) (day : Day) (run : Run) where
   -- a set describes a machine if it is made of what stands there, has its quiet set, and has what wakes there
   described-by :
@@ -370,7 +370,7 @@ module _
 
 -- a plan that passes: on every day, whatever stops, a copy of each call-up finishes when it is due at the latest
 pub served :
-    (before : Terms → Terms → Bool) → Laws before → (m : ℕ) (ps : List Placement) → Plan m ps → Passes before m ps →
+    (before : Terms → Terms → Bool) → Laws before → (m : ℕ) (ps : List Placement) → Arranged m ps → Passes before m ps →
     (day : Day) (stop : Stop) → Within m stop → (run : Run) → Keeps before ps day stop run →
     (p : Placement) → In p ps → (k : ℕ) → Served day run p k
 served before laws m ps plan passes day no-stop within run keeps p p-in k =

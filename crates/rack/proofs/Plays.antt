@@ -10,13 +10,14 @@ use Rattle.std.proofs.shelf.Tests.{cases-lt, cases-eq, cases-bool, both-ways, e
 use Rattle.std.proofs.shelf.Bits.{mul-le}
 use Rattle.terms.specs.declared.terms.Terms.{Terms}
 use Rattle.precedence.specs.Laws.{Laws}
+use Rattle.precedence.proofs.Orders.{either-first}
 use Rattle.figures.specs.declared.copies.Role.{Role}
 use Rattle.figures.specs.declared.copies.Role.the-variants.{Primary, Standby}
 use Rattle.figures.proofs.Demands.{period-some}
 use Rattle.rack.specs.declared.placement.Status.{Status}
 use Rattle.rack.specs.declared.placement.Status.the-variants.{Passive, Active}
 use Rattle.rack.specs.declared.placement.Placement.{Placement}
-use Rattle.rack.specs.Plan.{In, number, machine, Once, Plan}
+use Rattle.rack.specs.Plan.{In, number, machine, Once, Arranged}
 use Rattle.rack.specs.Day.{Day, invoked, late, work, Stop, no-stop, stops, halted}
 use Rattle.rack.specs.Run.{Slot, idle, runs, Run, worked, Wakes, Standby-released, Released, dropped, Ready, Ahead, Keeps}
 use Rattle.rack.specs.Covered.{Outcome}
@@ -251,7 +252,7 @@ module _ (before : Terms → Terms → Bool) (laws : Laws before) (day : Day) (s
         ))
         (λ theirs.
         let up : before (q .terms) (p .terms) ≡ true =
-        ⊎-elim (λ y. y) (λ w. absurd (both-ways _ theirs w)) (laws .total (q .terms) (p .terms) (once .0 q (leads .listed))) in
+        ⊎-elim (λ y. y) (λ w. absurd (both-ways _ theirs w)) (either-first before laws (q .terms) (p .terms) (once .0 q (leads .listed))) in
         inr (
           q,
           some .1,
@@ -343,7 +344,7 @@ module _ (before : Terms → Terms → Bool) (laws : Laws before) (day : Day) (s
 
 -- every day has exactly one run that keeps its rules
 pub outcome :
-    (before : Terms → Terms → Bool) → Laws before → (m : ℕ) (ps : List Placement) → Plan m ps → (day : Day) (stop : Stop) →
+    (before : Terms → Terms → Bool) → Laws before → (m : ℕ) (ps : List Placement) → Arranged m ps → (day : Day) (stop : Stop) →
     Outcome before ps day stop
 outcome before laws m ps plan day stop = record {
   run = played before laws day stop ps (plan .once);

@@ -13,7 +13,7 @@ use Rattle.figures.specs.declared.copies.Role.the-variants.{Primary, Standby}
 use Rattle.rack.specs.declared.placement.Status.{Status}
 use Rattle.rack.specs.declared.placement.Status.the-variants.{Passive, Active}
 use Rattle.rack.specs.declared.placement.Placement.{Placement}
-use Rattle.rack.specs.Plan.{In, number, Once, Plan}
+use Rattle.rack.specs.Plan.{In, number, Once, Arranged}
 use Rattle.rack.specs.Day.{Day, invoked, Stop, no-stop, stops, halted}
 use Rattle.rack.specs.Run.{Slot, idle, runs, Run, hit, worked, Wakes, Standby-released, Released, Ready, Ahead, Keeps}
 
@@ -93,7 +93,7 @@ ready-moves day stop one other t below g p k r =
       kept = r .kept;
     }
 
-module _ (before : Terms → Terms → Bool) (laws : Laws before) (m : ℕ) (ps : List Placement) (plan : Plan m ps) where
+module _ (before : Terms → Terms → Bool) (laws : Laws before) (m : ℕ) (ps : List Placement) (plan : Arranged m ps) where
   -- no job goes before itself
   not-before-own : (p q : Placement) → In p ps → In q ps → number p ≡ number q → before (p .terms) (q .terms) ≡ true → ⊥
   not-before-own p q a b e up =
@@ -192,7 +192,7 @@ module _ (before : Terms → Terms → Bool) (laws : Laws before) (m : ℕ) (ps 
 
 -- two runs that keep the rules of a day are one
 pub same-run :
-    (before : Terms → Terms → Bool) → Laws before → (m : ℕ) (ps : List Placement) → Plan m ps → (day : Day) (stop : Stop) (one other : Run) →
+    (before : Terms → Terms → Bool) → Laws before → (m : ℕ) (ps : List Placement) → Arranged m ps → (day : Day) (stop : Stop) (one other : Run) →
     Keeps before ps day stop one → Keeps before ps day stop other → (g t : ℕ) → other g t ≡ one g t
 same-run before laws m ps plan day stop one other keeps-one keeps-other g t =
     same-below before laws m ps plan day stop one other keeps-one keeps-other (suc t) g t (omega arith)

@@ -13,9 +13,9 @@ pub record Day : Type 0 where
   pub lateness : ℕ → ℕ → Role → ℕ
   pub running : ℕ → ℕ → Role → ℕ
 
--- when call-up k of a job is invoked; an offset above 1,000,000 counts as that
+-- when call-up k of a job is invoked
 abbrev pub invoked : Day → Terms → ℕ → ℕ
-invoked day t k = min 1000000 (day .offset (t .number)) + k * t .period
+invoked day t k = day .offset (t .number) + k * t .period
 
 abbrev pub due : Day → Terms → ℕ → ℕ
 due day t k = invoked day t k + t .deadline

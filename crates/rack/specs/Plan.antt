@@ -3,7 +3,8 @@ use mathlib.Core.Path.{_≡_}
 use mathlib.Core.Bool.{Bool, true, false}
 use mathlib.Core.List.{List, [], _∷_}
 use mathlib.Core.Logic.{_⊎_}
-use Prim.Native.Nat.{ℕ, _<_}
+use Prim.Native.Nat.{ℕ, _<_, _≤_}
+use lib.ListN.{length}
 use Rattle.terms.specs.declared.terms.Terms.{Terms}
 use Rattle.figures.specs.declared.copies.Role.{Role}
 use Rattle.figures.specs.declared.copies.Role.the-variants.{Primary, Standby}
@@ -39,6 +40,14 @@ pub record Placed (m : ℕ) (p : Placement) : Type 0 where
   pub standby : p .standby < m
   pub apart : p .primary ≡ p .standby → ⊥
 
-pub record Plan (m : ℕ) (ps : List Placement) : Type 0 where
+-- each job once, on two different machines of the rack, however many jobs there are
+pub record Arranged (m : ℕ) (ps : List Placement) : Type 0 where
   pub once : Once ps
   pub placed : (p : Placement) → In p ps → Placed m p
+
+-- a plan has 2 to 16 machines and at most 96 jobs
+pub record Plan (m : ℕ) (ps : List Placement) : Type 0 where
+  pub from-two : 2 ≤ m
+  pub to-sixteen : m ≤ 16
+  pub few : length ps ≤ 96
+  pub arranged : Arranged m ps

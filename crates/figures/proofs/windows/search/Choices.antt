@@ -1,6 +1,6 @@
 use Prim.Native.Nat.{_+_, _-_}
 use Rattle.figures.proofs.Climbs.{Below}
-use Rattle.figures.proofs.windows.window.Given as given
+use Rattle.figures.proofs.windows.search.Given as given
 
 -- x is at or below every window
 abbrev pub Inv-loop-x : given.InvT-loop-x
