@@ -220,7 +220,7 @@ module _
 
     -- the first call-up of a copy that can be released at or after from
     abbrev first : ℕ → JobCopy → ℕ
-    first from c = ceil (from - (min 1000000 (day .offset (c .terms .number)) + c .lateness)) (c .terms .period)
+    first from c = ceil (from - (day .offset (c .terms .number) + c .lateness)) (c .terms .period)
 
     -- how many can be in a window of x ticks
     abbrev many : ℕ → JobCopy → ℕ
@@ -265,7 +265,7 @@ module _
         let known = described .releases q q-in role here k r released below in
         let T = q .terms .period in
         let L = late-of role q in
-        let O = min 1000000 (day .offset (number q)) in
+        let O = day .offset (number q) in
         let early = not-early role day stop run q k r released in
         let low = window-low T L O from x k r (period-some (q .terms)) early (known .1) begins ends in
         let high = window-high T L O from x k r (period-some (q .terms)) early (known .1) begins ends in
