@@ -1,7 +1,12 @@
 // The plan test: whether every copy of a plan has its figures, under any precedence rule.
 // Uses the figures library by its contracts; knows no search order and no file.
+mod check;
 mod gather;
+mod listing;
 mod sweep;
+mod verdict;
 mod workspace;
 
+pub use check::check_plan;
+pub use verdict::Verdict;
 pub use workspace::Workspace;

@@ -5,3 +5,4 @@ pub mod Same
 pub mod Plays
 pub mod Tested
 pub mod Parts
+pub mod Promise
