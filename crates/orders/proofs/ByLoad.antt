@@ -1,7 +1,7 @@
 -- The list by load: each machine once, in order, each at the place of its rank.
 use mathlib.Core.Bool.{Bool, true, false, cond}
 use mathlib.Core.List.{List, [], _∷_}
-use mathlib.Core.Logic.{_⊎_, ⊎-elim}
+use mathlib.Core.Logic.{⊎-elim}
 use mathlib.Core.Path.{_≡_, refl, sym, ap, subst, _∙_}
 use Prim.Native.Nat.{ℕ, zero, suc, _+_, _<_, _≤_}
 use native.Mathlib.Nat.{not-suc-le-zero}
@@ -128,9 +128,9 @@ module _ (loads : List ℕ) where
       rank-counts (getD (by-load loads n) k 255) n ∙ before-at (by-load loads n) k (ordered n) (omega (arith, length-by-load n))
 
   -- so a machine stands at the place of its rank, and at no other
-  rank-is-place : (n g k : ℕ) → n ≤ 16 → g < n → rank loads g n ≡ k → getD (by-load loads n) k 255 ≡ g
-  rank-is-place n g k few lt e =
-      let place = every-turn n (by-load loads n) g (each-once n) lt in
+  rank-is-place : (n g k : ℕ) → g < n → rank loads g n ≡ k → getD (by-load loads n) k 255 ≡ g
+  rank-is-place n g k lt e =
+      let place = every-turn (each-once n) lt in
       let turn : rank loads g n ≡ place .0 = subst (λ (x : ℕ). rank loads x n ≡ place .0) (place .2) (rank-at n (place .0) (place .1)) in
       subst (λ (i : ℕ). getD (by-load loads n) i 255 ≡ g) (sym turn ∙ e) (place .2)
 
@@ -141,7 +141,7 @@ module _ (loads : List ℕ) where
 
   pub rank-tells : (n g k : ℕ) → n ≤ 16 → g < n → eqb (rank loads g n) k ≡ eqb (getD (by-load loads n) k 255) g
   rank-tells n g k few lt =
-      ⊎-elim (λ e. eq-eqb _ k e ∙ sym (eq-eqb _ g (rank-is-place n g k few lt e)))
+      ⊎-elim (λ e. eq-eqb _ k e ∙ sym (eq-eqb _ g (rank-is-place n g k lt e)))
       (λ ne. ne-eqb _ k ne ∙ sym (ne-eqb _ g (λ e. ne (place-is-rank n g k few lt e)))) (cases-eq (rank loads g n) k)
 
   -- one machine more

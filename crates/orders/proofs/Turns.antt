@@ -1,15 +1,15 @@
 -- What follows of a list in which each machine below the count stands exactly once.
-use mathlib.Core.Bool.{true, false, cond}
+use mathlib.Core.Bool.{true, _&&_}
 use mathlib.Core.List.{List, [], _∷_}
 use mathlib.Core.Logic.{⊎-elim}
-use mathlib.Core.Path.{_≡_, refl, sym, ap, subst, _∙_}
-use Prim.Native.Nat.{ℕ, zero, suc, _+_, _<_, _≤_}
+use mathlib.Core.Path.{_≡_, refl}
+use Prim.Native.Nat.{ℕ, zero, suc, _<_, _≤_}
 use native.Mathlib.Nat.{not-suc-le-zero}
 use native.Mathlib.Omega.{arith}
-use lib.Dec.{eqb}
+use lib.Dec.{leb, ltb}
 use lib.ListN.{length, getD}
-use Rattle.std.proofs.shelf.Tests.{cases-eq, ne-eqb, eq-eqb}
-use Rattle.orders.specs.Turns.{EachOnce, times}
+use Rattle.std.proofs.shelf.Tests.{and-parts, cases-eq, eq-eqb, le-leb, leb-true, lt-ltb, ltb-true, ne-eqb}
+use Rattle.orders.specs.Turns.{EachOnce, is-turn, times, turn-of}
 
 -- what stands in a list stands at a place of it
 found : (xs : List ℕ) (g : ℕ) → 0 < times g xs → (k : ℕ) × (k < length xs) × (getD xs k 255 ≡ g)
@@ -36,16 +36,27 @@ counts-twice (x ∷ xs) (suc i) (suc j) lt last e =
     omega (arith, counts-twice xs i j (omega arith) (omega arith) e)
 
 -- each machine has a turn
-pub every-turn : (count : ℕ) (xs : List ℕ) (g : ℕ) → EachOnce count xs → g < count → (k : ℕ) × (k < count) × (getD xs k 255 ≡ g)
-every-turn count xs g o lt =
+pub every-turn : {count : ℕ} {xs : List ℕ} {g : ℕ} → EachOnce count xs → g < count → (k : ℕ) × (k < count) × (getD xs k 255 ≡ g)
+every-turn {count} {xs} {g} o lt =
     let place = found xs g (omega (arith, o .once g lt)) in
     (place .0, omega (arith, place .1, o .long), place .2)
 
 -- at each turn stands a machine
-pub turn-below : (count : ℕ) (xs : List ℕ) (k : ℕ) → EachOnce count xs → k < count → getD xs k 255 < count
-turn-below count xs k o lt = o .below k lt
+pub turn-below : {count : ℕ} {xs : List ℕ} {k : ℕ} → EachOnce count xs → k < count → getD xs k 255 < count
+turn-below {count} {xs} {k} o lt = o .below k lt
 
 -- different turns have different machines
-pub turns-apart : (count : ℕ) (xs : List ℕ) (i j : ℕ) → EachOnce count xs → i < j → j < count → getD xs i 255 ≡ getD xs j 255 → ⊥
-turns-apart count xs i j o lt last e =
+pub turns-apart : {count : ℕ} {xs : List ℕ} {i j : ℕ} → EachOnce count xs → i < j → j < count → getD xs i 255 ≡ getD xs j 255 → ⊥
+turns-apart {count} {xs} {i} {j} o lt last e =
     omega (arith, o .once (getD xs j 255) (o .below j last), counts-twice xs i j lt (omega (arith, o .long)) e)
+
+-- what a count and a turn are where the test holds
+pub is-turn-true : (count k : ℕ) → is-turn count k ≡ true → (2 ≤ count) × (count ≤ 16) × (k < count)
+is-turn-true count k told =
+    let low = and-parts (leb 2 count) (leb count 16 && ltb k count) told in
+    let high = and-parts (leb count 16) (ltb k count) (low .1) in
+    (leb-true 2 count (low .0), leb-true count 16 (high .0), ltb-true k count (high .1))
+
+-- at a turn the list's place is told
+pub turn-told : (xs : List ℕ) (count k : ℕ) → 2 ≤ count → count ≤ 16 → k < count → turn-of xs count k ≡ getD xs k 255
+turn-told xs count k low high lt = rw (le-leb 2 count low, le-leb count 16 high, lt-ltb k count lt)

@@ -7,7 +7,7 @@ use lib.Dec.{eqb, ltb}
 use lib.ListN.{getD}
 use Rattle.orders.specs.declared.lightest.Lightest.{Lightest}
 
--- whether machine a comes before machine b
+-- whether machine a comes before machine b: by the smaller load, at equal loads by the smaller number
 abbrev pub lighter : List ℕ → ℕ → ℕ → Bool
 lighter loads a b = cond (eqb (getD loads a 0) (getD loads b 0)) (ltb a b) (ltb (getD loads a 0) (getD loads b 0))
 

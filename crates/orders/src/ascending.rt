@@ -21,6 +21,10 @@ pub impl SearchOrder for Ascending as AscendingSearchOrder {
     ghost turns = { ascending-turns };
 
     fn turn(&self, count: u8, loads: &[u64; 16], k: u8) -> u8 {
-        if is_turn(count, k) { machine_at(count, k) } else { 255 }
+        if is_turn(count, k) {
+            machine_at(count, k)
+        } else {
+            255
+        }
     }
 }
