@@ -32,16 +32,23 @@ fn passes_on<R: Precedence>(rule: &R, machines: u8, placements: &[Placement], sp
     true
 }
 
+// What the test says of a list of placements, and what that promises.
+fn judge<R: Precedence>(rule: &R, machines: u8, placements: &[Placement], space: &mut Workspace) -> Verdict
+    ensures { λ v. ⌜ Means (R·Precedence .before (now (rule .entry))) machines (now (placements .entry)) v ⌝ }
+{
+    if !is_plan_of(machines, placements) {
+        return Verdict::NoPlan;
+    }
+    if passes_on(rule, machines, placements, space) {
+        return Verdict::Passing;
+    }
+    Verdict::Fails
+}
+
 // The plan test over any list of placements, for any rule that keeps its laws.
 pub fn check_plan<R: Precedence>(heap: Global, rule: &R, machines: u8, placements: &[Placement]) -> Result<Verdict, AllocError>
     ensures { λ r. ⌜ made r (λ v. Means (R·Precedence .before (now (rule .entry))) machines (now (placements .entry)) v) ⌝ }
 {
-    if !is_plan_of(machines, placements) {
-        return Ok(Verdict::NoPlan);
-    }
     let mut space = Workspace::new(heap)?;
-    if passes_on(rule, machines, placements, &mut space) {
-        return Ok(Verdict::Passing);
-    }
-    Ok(Verdict::Fails)
+    Ok(judge(rule, machines, placements, &mut space))
 }

@@ -4,7 +4,7 @@ use Rattle.rack.proofs.Promise.{covered}
 use Rattle.rack.proofs.Parts.{fewer-pass}
 use Rattle.rack.proofs.Tested.{passes-means, passes-true}
 use Rattle.plantest.proofs.Listings.{plan-means, plan-true}
-use Rattle.plantest.proofs.check.check_plan.Needs as need
+use Rattle.plantest.proofs.check.judge.Needs as need
 
 pub returns-then-not-is-plan-of : need.returns-then-not-is-plan-of
 returns-then-not-is-plan-of g c =
