@@ -1,2 +1,4 @@
+pub mod Shortcuts
 pub mod Rows
+pub mod Plans
 pub mod Table

@@ -12,9 +12,11 @@ use Rattle.terms.specs.Limits.{lawful}
 use Rattle.terms.specs.Making.{terms-of}
 use Rattle.precedence.specs.Deadlines.{deadline-before}
 use Rattle.precedence.specs.declared.deadline.Deadline.{Deadline}
-use Rattle.figures.specs.declared.copies.Role.the-variants.{Primary, Standby}
-use Rattle.figures.specs.declared.copies.JobCopy.{JobCopy}
-use Rattle.figures.specs.Figure.{figure-of}
+use Rattle.rack.specs.declared.placement.Status.{Status}
+use Rattle.rack.specs.declared.placement.Placement.{Placement}
+use Rattle.rack.specs.Sets.{quiet-figure}
+use Rattle.rack.specs.Test.{loss-figure, standby-figure, passes}
+use Rattle.cases.specs.Shortcuts.{short-passes, no-lateness-figure, strictly-before}
 
 -- number, period, deadline, run, standby run, lateness
 abbrev pub draft : ℕ → ℕ → ℕ → ℕ → ℕ → ℕ → Draft
@@ -23,8 +25,9 @@ draft n t d c s j = record { number = n; period = t; deadline = d; run = c; stan
 abbrev pub job : (n t d c s j : ℕ) → lawful (draft n t d c s j) ≡ true → Terms
 job n t d c s j ok = terms-of (draft n t d c s j) ok
 
-abbrev pub primary : Terms → JobCopy
-primary t = record { terms = t; role = Primary; lateness = t .lateness }
+-- on a primary machine and a standby machine, with a status
+abbrev pub on : Terms → ℕ → ℕ → Status → Placement
+on t p b status = record { terms = t; primary = p; standby = b; status = status }
 
 abbrev pub by-deadline : Terms → Terms → Bool
 by-deadline a b = deadline-before (record {}) a b
@@ -32,8 +35,18 @@ by-deadline a b = deadline-before (record {}) a b
 pub data Row : Type 0 where
   -- the draft is lawful, or it is not
   judged : Draft → Bool → Row
-  -- the copy's figure in the set
-  figured : List JobCopy → JobCopy → Option ℕ → Row
+  -- the plan of so many machines passes, or it does not
+  tested : ℕ → List Placement → Bool → Row
+  -- the quiet figure of a job of the plan
+  quiet-is : List Placement → Placement → Option ℕ → Row
+  -- the figure of its primary when a machine stops
+  lost-is : List Placement → Placement → ℕ → Option ℕ → Row
+  -- the figure of its standby
+  standby-is : List Placement → Placement → Option ℕ → Row
+  -- what the shortcuts that miss a deadline would say
+  tested-short : ℕ → List Placement → Bool → Row
+  quiet-without-lateness : List Placement → Placement → Option ℕ → Row
+  tested-no-ties : ℕ → List Placement → Bool → Row
 
 abbrev pub same-bool : Bool → Bool → Bool
 same-bool a b = cond a b (not b)
@@ -46,4 +59,10 @@ same-figure (Some a) (Some b) = eqb a b
 
 abbrev pub holds : Row → Bool
 holds (judged d answer) = same-bool (lawful d) answer
-holds (figured set own answer) = same-figure (figure-of by-deadline set own) answer
+holds (tested m ps answer) = same-bool (passes by-deadline m ps) answer
+holds (quiet-is ps p answer) = same-figure (quiet-figure by-deadline ps p) answer
+holds (lost-is ps p f answer) = same-figure (loss-figure by-deadline ps p f) answer
+holds (standby-is ps p answer) = same-figure (standby-figure by-deadline ps p) answer
+holds (tested-short m ps answer) = same-bool (short-passes by-deadline m ps) answer
+holds (quiet-without-lateness ps p answer) = same-figure (no-lateness-figure by-deadline ps p) answer
+holds (tested-no-ties m ps answer) = same-bool (passes strictly-before m ps) answer

@@ -1,27 +1,57 @@
 -- The plans worked by hand.
-use mathlib.Core.Path.{_≡_, refl}
 use mathlib.Core.Bool.{Bool, true, false, _&&_}
 use mathlib.Core.List.{List, [], _∷_}
 use Rattle.std.specs.declared.option.Option.the-variants.{Some, None}
-use Rattle.terms.specs.declared.terms.Terms.{Terms}
-use Rattle.cases.specs.Rows.{Row, judged, figured, draft, job, primary, holds}
+use Rattle.rack.specs.declared.placement.Status.the-variants.{Passive, Active}
+use Rattle.cases.specs.Rows.{Row, judged, tested, quiet-is, lost-is, standby-is, tested-short, quiet-without-lateness, tested-no-ties, draft, holds}
+use Rattle.cases.specs.Plans.{job-10, job-11, both, job-21, late-plan, job-1, job-2, tight-plan, loose-plan, job-5, after-withdrawal, far-plan}
 
 abbrev pub all-hold : List Row → Bool
 all-hold [] = true
 all-hold (r ∷ rs) = holds r && all-hold rs
-
--- jobs of plan 5
-abbrev pub job-20 : Terms
-job-20 = job 20 10 10 3 1 7 refl
-
-abbrev pub job-21 : Terms
-job-21 = job 21 20 20 4 1 0 refl
 
 abbrev pub worked-plans : List Row
 worked-plans =
     -- 1: the limits may be met exactly, and not passed
     judged (draft 1 10 10 4 4 6) true
     ∷ judged (draft 1 10 10 4 4 7) false
-    -- 5: both primaries alone on one machine
-    ∷ figured (primary job-20 ∷ primary job-21 ∷ []) (primary job-21) (Some 10)
+    -- 2: one job on two machines; its figures are 4, 4 and 8
+    ∷ tested 2 (job-10 ∷ []) true
+    ∷ quiet-is (job-10 ∷ []) job-10 (Some 4)
+    ∷ lost-is (job-10 ∷ []) job-10 1 (Some 4)
+    ∷ standby-is (job-10 ∷ []) job-10 (Some 8)
+    -- 3: no choice passes for a second one
+    ∷ tested 2 (both (job-11 0 1 Passive)) false
+    ∷ tested 2 (both (job-11 0 1 Active)) false
+    ∷ tested 2 (both (job-11 1 0 Passive)) false
+    ∷ tested 2 (both (job-11 1 0 Active)) false
+    -- 4: on three machines the first choice that passes is 0 and 2, active; the figures are 8, 8 and 4
+    ∷ tested 3 (both (job-11 0 1 Passive)) false
+    ∷ tested 3 (both (job-11 0 2 Passive)) false
+    ∷ tested 3 (both (job-11 0 1 Active)) false
+    ∷ tested 3 (both (job-11 0 2 Active)) true
+    ∷ quiet-is (both (job-11 0 2 Active)) (job-11 0 2 Active) (Some 8)
+    ∷ lost-is (both (job-11 0 2 Active)) (job-11 0 2 Active) 1 (Some 8)
+    ∷ lost-is (both (job-11 0 2 Active)) (job-11 0 2 Active) 2 (Some 8)
+    ∷ standby-is (both (job-11 0 2 Active)) (job-11 0 2 Active) (Some 4)
+    -- 5: the lateness of a copy that goes before counts
+    ∷ quiet-is late-plan job-21 (Some 10)
+    -- 6: the third job fails with deadline 10 and passes with 11
+    ∷ tested 3 (job-1 ∷ []) true
+    ∷ tested 3 (job-1 ∷ job-2 ∷ []) true
+    ∷ tested 3 tight-plan false
+    ∷ tested 3 loose-plan true
+    -- shortcuts that miss a deadline: other machines' active standbys left out of loss sets
+    ∷ tested-short 3 tight-plan true
+    -- lateness of copies that go before forgotten
+    ∷ quiet-without-lateness late-plan job-21 (Some 7)
+    -- equal deadlines taken as no hindrance
+    ∷ tested-no-ties 2 (both (job-11 0 1 Passive)) true
+    -- a standby made passive after a withdrawal: active it passes with figure 9, passive it does not
+    ∷ tested 3 (after-withdrawal Active) true
+    ∷ quiet-is (after-withdrawal Active) (job-5 Active) (Some 2)
+    ∷ standby-is (after-withdrawal Active) (job-5 Active) (Some 9)
+    ∷ tested 3 (after-withdrawal Passive) false
+    -- the test looks at every machine
+    ∷ tested 3 far-plan false
     ∷ []
