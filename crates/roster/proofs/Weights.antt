@@ -8,7 +8,7 @@ use lib.ListN.{length, getD, drop}
 use Rattle.std.proofs.shelf.Lists.{drop-all, drop-more}
 use Rattle.figures.specs.Demand.{ceil}
 use Rattle.rack.specs.declared.placement.Placement.{Placement}
-use Rattle.roster.specs.Loads.{primary-load, standby-load, load}
+use Rattle.roster.specs.Loads.{job-load, load}
 
 -- a run that is no longer than its period asks for no more than all of the machine
 pub share-most : (run period : ℕ) → run ≤ period → 1 ≤ period → ceil (1000000 * run) period ≤ 1000000
@@ -20,7 +20,7 @@ module _ (g : ℕ) (ps : List Placement) (i : ℕ) where
   -- what is left to add, from a placement on
   pub load-from :
       (p : Placement) → i < length ps → p ≡ getD ps i p →
-      load g (drop i ps) ≡ (primary-load g p + standby-load g p) + load g (drop (i + 1) ps)
+      load g (drop i ps) ≡ job-load g p + load g (drop (i + 1) ps)
   load-from p lt read = ap (load g) (drop-more ps i p lt ∙ ap (λ y. y ∷ drop (i + 1) ps) (sym read))
 
   -- nothing is left to add

@@ -22,10 +22,14 @@ primary-load g p = cond (eqb (p .primary) g) (share Primary p) 0
 abbrev pub standby-load : ℕ → Placement → ℕ
 standby-load g p = cond (eqb (p .standby) g && active (p .status)) (share Standby p) 0
 
+-- what a job adds to it
+abbrev pub job-load : ℕ → Placement → ℕ
+job-load g p = primary-load g p + standby-load g p
+
 -- the load of machine g
 abbrev pub load : ℕ → List Placement → ℕ
 load g [] = 0
-load g (p ∷ ps) = (primary-load g p + standby-load g p) + load g ps
+load g (p ∷ ps) = job-load g p + load g ps
 
 -- the loads of the machines 0 to 15
 abbrev pub loads : List Placement → List ℕ

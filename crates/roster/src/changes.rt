@@ -1,5 +1,7 @@
-ghost use mathlib.Core.Bool.{cond};
+ghost use mathlib.Core.Bool.{_&&_, cond};
+ghost use mathlib.Core.List.{[]};
 ghost use mathlib.Core.Path.{_≡_};
+ghost use lib.Dec.{leb};
 ghost use Rattle.std.specs.Of.Vec.{vec-items};
 ghost use Rattle.roster.specs.Changes.{addable, find, with-job, without};
 use crate::places::is_placed;
@@ -9,14 +11,18 @@ use crate::roster::Roster;
 use rack::Placement;
 
 impl Roster {
-    // The placement of the job with this number.
-    pub fn find(&self, number: u32) -> Option<Placement>
-        ensures { λ r. ⌜ r ≡ find number (vec-items (now (self .entry) .placements)) ⌝ }
+    // Begins again with so many machines and no job, if they are 2 to 16.
+    pub fn reset(&mut self, machines: u32) -> bool
+        ensures test { λ r. ⌜ r ≡ (leb 2 machines && leb machines 16) ⌝ }
+        ensures machines { λ r. ⌜ now (self .exit) .machines ≡ cond r machines (now (self .entry) .machines) ⌝ }
+        ensures items { λ r. ⌜ vec-items (now (self .exit) .placements) ≡ cond r [] (vec-items (now (self .entry) .placements)) ⌝ }
     {
-        match place_of(self.placements.as_slice(), number) {
-            None => None,
-            Some(i) => Some(self.placements[i]),
+        if machines < 2 || machines > 16 {
+            return false;
         }
+        self.placements.clear();
+        self.machines = machines as u8;
+        true
     }
 
     // Whether a job may be put in.
@@ -35,7 +41,7 @@ impl Roster {
         if !self.takes(&p) {
             return false;
         }
-        let i = place_for(self.placements.as_slice(), &p);
+        let i = place_for(self.placements(), &p);
         let _ = self.placements.insert(i, p);
         true
     }
@@ -46,7 +52,7 @@ impl Roster {
         ensures items { λ _. ⌜ vec-items (now (self .exit) .placements) ≡ without number (vec-items (now (self .entry) .placements)) ⌝ }
         ensures machines { λ _. ⌜ now (self .exit) .machines ≡ now (self .entry) .machines ⌝ }
     {
-        match place_of(self.placements.as_slice(), number) {
+        match place_of(self.placements(), number) {
             None => None,
             Some(i) => Some(self.placements.remove(i)),
         }

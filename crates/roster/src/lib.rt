@@ -3,6 +3,7 @@
 mod changes;
 mod loading;
 mod places;
+mod reading;
 mod roster;
 
 pub use roster::Roster;

@@ -1,10 +1,9 @@
-ghost use mathlib.Core.Bool.{true, cond};
 ghost use mathlib.Core.Path.{_≡_};
-ghost use Prim.Native.Nat.{_+_, _*_, _≤_};
+ghost use Prim.Native.Nat.{_*_, _≤_};
 ghost use lib.ListN.{length};
 ghost use Rattle.std.specs.Of.Vec.{vec-items};
 ghost use Rattle.figures.specs.Demand.{ceil};
-ghost use Rattle.roster.specs.Loads.{load, loads, primary-load, standby-load};
+ghost use Rattle.roster.specs.Loads.{job-load, load, loads, primary-load, standby-load};
 use crate::roster::Roster;
 use rack::Placement;
 use rack::Status;
@@ -44,16 +43,21 @@ fn of_standby(p: &Placement, machine: u8) -> u64
     ensures value { λ r. ⌜ r ≡ standby-load machine (now (p .entry)) ⌝ }
     ensures small { λ r. ⌜ r ≤ 1000000 ⌝ }
 {
+    if p.standby != machine {
+        return 0;
+    }
     match p.status {
         Status::Passive => 0,
-        Status::Active => {
-            if p.standby == machine {
-                millionths(p.terms.standby(), p.terms.period())
-            } else {
-                0
-            }
-        }
+        Status::Active => millionths(p.terms.standby(), p.terms.period()),
     }
+}
+
+// What a job adds to it.
+fn of_job(p: &Placement, machine: u8) -> u64
+    ensures value { λ r. ⌜ r ≡ job-load machine (now (p .entry)) ⌝ }
+    ensures small { λ r. ⌜ r ≤ 2000000 ⌝ }
+{
+    of_primary(p, machine) + of_standby(p, machine)
 }
 
 fn load_of(placements: &[Placement], machine: u8) -> u64
@@ -62,7 +66,7 @@ fn load_of(placements: &[Placement], machine: u8) -> u64
 {
     let mut total = 0;
     for p in placements {
-        total += of_primary(p, machine) + of_standby(p, machine);
+        total += of_job(p, machine);
     }
     total
 }
@@ -84,6 +88,6 @@ impl Roster {
     pub fn loads(&self) -> [u64; 16]
         ensures { λ r. ⌜ r ≡ loads (vec-items (now (self .entry) .placements)) ⌝ }
     {
-        loads_of(self.placements.as_slice())
+        loads_of(self.placements())
     }
 }

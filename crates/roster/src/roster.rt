@@ -1,8 +1,7 @@
-ghost use mathlib.Core.Bool.{true, _&&_, cond};
+ghost use mathlib.Core.Bool.{true};
 ghost use mathlib.Core.List.{[]};
 ghost use mathlib.Core.Path.{_≡_};
 ghost use Prim.Native.Nat.{_≤_};
-ghost use lib.Dec.{leb};
 ghost use Rattle.std.specs.Of.Vec.{vec-cap, vec-items, vec-len};
 ghost use Rattle.std.specs.Vec.{made};
 ghost use Rattle.roster.specs.Rising.{all-placed, rising};
@@ -32,31 +31,5 @@ impl Roster {
             machines: 2,
             placements,
         })
-    }
-
-    pub fn machines(&self) -> u8
-        ensures { λ r. ⌜ r ≡ now (self .entry) .machines ⌝ }
-    {
-        self.machines
-    }
-
-    pub fn placements(&self) -> &[Placement]
-        ensures { λ r. ⌜ now r ≡ vec-items (now (self .entry) .placements) ⌝ }
-    {
-        self.placements.as_slice()
-    }
-
-    // Begins again with so many machines and no job, if they are 2 to 16.
-    pub fn reset(&mut self, machines: u32) -> bool
-        ensures test { λ r. ⌜ r ≡ (leb 2 machines && leb machines 16) ⌝ }
-        ensures machines { λ r. ⌜ now (self .exit) .machines ≡ cond r machines (now (self .entry) .machines) ⌝ }
-        ensures items { λ r. ⌜ vec-items (now (self .exit) .placements) ≡ cond r [] (vec-items (now (self .entry) .placements)) ⌝ }
-    {
-        if machines < 2 || machines > 16 {
-            return false;
-        }
-        self.placements.clear();
-        self.machines = machines as u8;
-        true
     }
 }
