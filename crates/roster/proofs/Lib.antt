@@ -1,0 +1,4 @@
+pub mod Jobs
+pub mod Ordered
+pub mod Walks
+pub mod Weights
