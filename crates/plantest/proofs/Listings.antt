@@ -28,12 +28,12 @@ has-it (q ∷ ps) p (inr rest) = or-right _ _ (has-it ps p rest)
 pub has-not-more : (n : ℕ) (ps : List Placement) (i : ℕ) (p : Placement) → i < length ps → p ≡ getD ps i p → has-number n (take i ps) ≡ false → (number p ≡ n → ⊥) → has-number n (take (i + 1) ps) ≡ false
 has-not-more n ps i p lt read none other = rw add-one (go ps i lt read none)
   where
-  go : (ps : List Placement) (i : ℕ) → i < length ps → p ≡ getD ps i p → has-number n (take i ps) ≡ false → has-number n (take (suc i) ps) ≡ false
-  go [] i lt read none = absurd (not-suc-le-zero lt)
-  go (q ∷ ps) zero lt read none = or-from _ _ (ne-eqb (number q) n (λ e. other (ap number read ∙ e))) refl
-  go (q ∷ ps) (suc i) lt read none =
-      let parts = or-parts (eqb (number q) n) (has-number n (take i ps)) none in
-      or-from _ _ (parts .0) (go ps i (le-of-suc-le-suc lt) read (parts .1))
+    go : (ps : List Placement) (i : ℕ) → i < length ps → p ≡ getD ps i p → has-number n (take i ps) ≡ false → has-number n (take (suc i) ps) ≡ false
+    go [] i lt read none = absurd (not-suc-le-zero lt)
+    go (q ∷ ps) zero lt read none = or-from _ _ (ne-eqb (number q) n (λ e. other (ap number read ∙ e))) refl
+    go (q ∷ ps) (suc i) lt read none =
+        let parts = or-parts (eqb (number q) n) (has-number n (take i ps)) none in
+        or-from _ _ (parts .0) (go ps i (le-of-suc-le-suc lt) read (parts .1))
 
 -- from a place on: the job there stands once, and so do those after it
 pub once-from : (ps : List Placement) (i : ℕ) (p : Placement) → i < length ps → p ≡ getD ps i p → each-once (drop i ps) ≡ (not (has-number (number p) (drop (i + 1) ps)) && each-once (drop (i + 1) ps))

@@ -43,10 +43,10 @@ module _ (before : Terms → Terms → Bool) where
 pub map-more : {A B : Type 0} (f : A → B) (xs : List A) (n : ℕ) (x : A) → n < length xs → x ≡ getD xs n x → map f (take (n + 1) xs) ≡ map f (take n xs) ++ f x ∷ []
 map-more {A} {B} f xs n x lt read = rw add-one (go xs n lt read)
   where
-  go : (xs : List A) (n : ℕ) → n < length xs → x ≡ getD xs n x → map f (take (suc n) xs) ≡ map f (take n xs) ++ f x ∷ []
-  go [] n lt read = absurd (not-suc-le-zero lt)
-  go (y ∷ xs) zero lt read = ap (λ z. f z ∷ []) (sym read)
-  go (y ∷ xs) (suc n) lt read = ap (λ z. f y ∷ z) (go xs n (le-of-suc-le-suc lt) read)
+    go : (xs : List A) (n : ℕ) → n < length xs → x ≡ getD xs n x → map f (take (suc n) xs) ≡ map f (take n xs) ++ f x ∷ []
+    go [] n lt read = absurd (not-suc-le-zero lt)
+    go (y ∷ xs) zero lt read = ap (λ z. f z ∷ []) (sym read)
+    go (y ∷ xs) (suc n) lt read = ap (λ z. f y ∷ z) (go xs n (le-of-suc-le-suc lt) read)
 
 -- a place of a mapped list
 pub map-at : {A : Type 0} (f : A → ℕ) (xs : List A) (n : ℕ) (x : A) → n < length xs → x ≡ getD xs n x → getD (map f xs) n 0 ≡ f x
@@ -60,9 +60,9 @@ map-length f (x ∷ xs) = ap suc (map-length f xs)
 
 -- with the gathered set and the quiet figures as latenesses, the copies' test is the pair's
 pub pair-fits-is :
-  (before : Terms → Terms → Bool) (ps : List Placement) (lates : List ℕ) (set : List JobCopy) (g f n : ℕ) (p : Placement) →
-  lates ≡ map (passive-late before ps) ps → set ≡ loss-with lates g f ps → n < length ps → p ≡ getD ps n p →
-  copies-fit before set (copy-of Standby p (cond (active (p .status)) (p .terms .lateness) (getD lates n 0))) g f p ≡ pair-fits before ps g f p
+    (before : Terms → Terms → Bool) (ps : List Placement) (lates : List ℕ) (set : List JobCopy) (g f n : ℕ) (p : Placement) →
+    lates ≡ map (passive-late before ps) ps → set ≡ loss-with lates g f ps → n < length ps → p ≡ getD ps n p →
+    copies-fit before set (copy-of Standby p (cond (active (p .status)) (p .terms .lateness) (getD lates n 0))) g f p ≡ pair-fits before ps g f p
 pair-fits-is before ps lates set g f n p figures gathered lt read =
     let late : getD lates n 0 ≡ passive-late before ps p = ap (λ l. getD l n 0) figures ∙ map-at (passive-late before ps) ps n p lt read in
     let whole : set ≡ loss before ps g f = gathered ∙ ap (λ l. loss-with l g f ps) figures ∙ loss-is before ps ps g f in
@@ -108,7 +108,7 @@ module _ (before : Terms → Terms → Bool) (m : ℕ) (ps : List Placement) (ar
         lost = λ f f-in other.
             unless-met (eqb (p .primary) (p .primary)) (isSome (loss-figure before ps p f)) (and-parts _ _ (pair-at (p .primary) f p swept (placed .primary) f-in other in-ps) .0) (eq-eqb (p .primary) (p .primary) refl);
         standby =
-          unless-met (eqb (p .standby) (p .standby) && eqb (p .primary) (p .primary)) (isSome (standby-figure before ps p)) (and-parts _ _ (pair-at (p .standby) (p .primary) p swept (placed .standby) (placed .primary) (placed .apart) in-ps) .1) (and-from _ _ (eq-eqb (p .standby) (p .standby) refl) (eq-eqb (p .primary) (p .primary) refl));
+            unless-met (eqb (p .standby) (p .standby) && eqb (p .primary) (p .primary)) (isSome (standby-figure before ps p)) (and-parts _ _ (pair-at (p .standby) (p .primary) p swept (placed .standby) (placed .primary) (placed .apart) in-ps) .1) (and-from _ _ (eq-eqb (p .standby) (p .standby) refl) (eq-eqb (p .primary) (p .primary) refl));
       }
 
   pair-true : (g f : ℕ) → f < m → (f ≡ g → ⊥) → Passes before m ps → (p : Placement) → In p ps → pair-fits before ps g f p ≡ true
@@ -117,14 +117,14 @@ module _ (before : Terms → Terms → Bool) (m : ℕ) (ps : List Placement) (ar
       and-from _ _
       (unless (eqb (p .primary) g) (isSome (figure-of before (loss before ps g f) (primary-copy p)))
       (λ e.
-          let here : p .primary ≡ g = eqb-true (p .primary) g e in
-          ap (λ z. isSome (figure-of before (loss before ps z f) (primary-copy p))) (sym here) ∙ fit .lost f f-in (λ same. other (same ∙ here))))
+      let here : p .primary ≡ g = eqb-true (p .primary) g e in
+      ap (λ z. isSome (figure-of before (loss before ps z f) (primary-copy p))) (sym here) ∙ fit .lost f f-in (λ same. other (same ∙ here))))
       (unless (eqb (p .standby) g && eqb (p .primary) f) (isSome (figure-of before (loss before ps g f) (standby-copy before ps p)))
       (λ e.
-          let both = and-parts _ _ e in
-          ap (λ z. isSome (figure-of before (loss before ps z f) (standby-copy before ps p))) (sym (eqb-true (p .standby) g (both .0)))
-          ∙ ap (λ z. isSome (figure-of before (loss before ps (p .standby) z) (standby-copy before ps p))) (sym (eqb-true (p .primary) f (both .1)))
-          ∙ fit .standby))
+      let both = and-parts _ _ e in
+      ap (λ z. isSome (figure-of before (loss before ps z f) (standby-copy before ps p))) (sym (eqb-true (p .standby) g (both .0)))
+      ∙ ap (λ z. isSome (figure-of before (loss before ps (p .standby) z) (standby-copy before ps p))) (sym (eqb-true (p .primary) f (both .1)))
+      ∙ fit .standby))
 
   pub sweep-true : Passes before m ps → sweep before m ps ≡ true
   sweep-true pass =
@@ -132,12 +132,12 @@ module _ (before : Terms → Terms → Bool) (m : ℕ) (ps : List Placement) (ar
       (each-all-of (has-quiet before ps) ps (λ p in-ps. pass p in-ps .quiet))
       (each-all-below (machine-passes before m ps) m
       (λ g g-in.
-          each-all-below (lost-passes before ps g) m
-          (λ f f-in.
-              ⊎-elim
-              (λ same. ap (λ z. z || pair-passes before ps g f) (eq-eqb f g same))
-              (λ other. or-from-second (eqb f g) (pair-passes before ps g f) (each-all-of (pair-fits before ps g f) ps (pair-true g f f-in other pass)))
-              (cases-eq f g))))
+      each-all-below (lost-passes before ps g) m
+      (λ f f-in.
+      ⊎-elim
+      (λ same. ap (λ z. z || pair-passes before ps g f) (eq-eqb f g same))
+      (λ other. or-from-second (eqb f g) (pair-passes before ps g f) (each-all-of (pair-fits before ps g f) ps (pair-true g f f-in other pass)))
+      (cases-eq f g))))
 
   -- the sweep is the plan test
   pub sweep-is : sweep before m ps ≡ passes before m ps

@@ -16,7 +16,12 @@ use std::alloc::AllocError;
 use std::alloc::Global;
 
 // Whether an arranged plan of at most 96 jobs passes.
-fn passes_on<R: Precedence>(rule: &R, machines: u8, placements: &[Placement], space: &mut Workspace) -> bool
+fn passes_on<R: Precedence>(
+    rule: &R,
+    machines: u8,
+    placements: &[Placement],
+    space: &mut Workspace,
+) -> bool
     requires few { ⌜ length (now placements) ≤ 96 ⌝ }
     requires arranged { ⌜ Arranged machines (now placements) ⌝ }
     ensures { λ r. ⌜ r ≡ passes (R·Precedence .before (now (rule .entry))) machines (now (placements .entry)) ⌝ }
@@ -25,7 +30,14 @@ fn passes_on<R: Precedence>(rule: &R, machines: u8, placements: &[Placement], sp
         return false;
     }
     for g in 0..machines {
-        if !machine_fits(rule, machines, placements, space.lates.as_slice(), g, &mut space.copies) {
+        if !machine_fits(
+            rule,
+            machines,
+            placements,
+            space.lates.as_slice(),
+            g,
+            &mut space.copies,
+        ) {
             return false;
         }
     }
@@ -33,7 +45,12 @@ fn passes_on<R: Precedence>(rule: &R, machines: u8, placements: &[Placement], sp
 }
 
 // What the test says of a list of placements, and what that promises.
-fn judge<R: Precedence>(rule: &R, machines: u8, placements: &[Placement], space: &mut Workspace) -> Verdict
+fn judge<R: Precedence>(
+    rule: &R,
+    machines: u8,
+    placements: &[Placement],
+    space: &mut Workspace,
+) -> Verdict
     ensures { λ v. ⌜ Means (R·Precedence .before (now (rule .entry))) machines (now (placements .entry)) v ⌝ }
 {
     if !is_plan_of(machines, placements) {
@@ -46,7 +63,12 @@ fn judge<R: Precedence>(rule: &R, machines: u8, placements: &[Placement], space:
 }
 
 // The plan test over any list of placements, for any rule that keeps its laws.
-pub fn check_plan<R: Precedence>(heap: Global, rule: &R, machines: u8, placements: &[Placement]) -> Result<Verdict, AllocError>
+pub fn check_plan<R: Precedence>(
+    heap: Global,
+    rule: &R,
+    machines: u8,
+    placements: &[Placement],
+) -> Result<Verdict, AllocError>
     ensures { λ r. ⌜ made r (λ v. Means (R·Precedence .before (now (rule .entry))) machines (now (placements .entry)) v) ⌝ }
 {
     let mut space = Workspace::new(heap)?;

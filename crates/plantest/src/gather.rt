@@ -17,7 +17,11 @@ use rack::Status;
 pub(crate) fn primary_copy(p: &Placement) -> JobCopy
     ensures { λ r. ⌜ r ≡ copy-of Primary (now (p .entry)) (now (p .entry) .terms .lateness) ⌝ }
 {
-    JobCopy { terms: p.terms, role: Role::Primary, lateness: p.terms.lateness() }
+    JobCopy {
+        terms: p.terms,
+        role: Role::Primary,
+        lateness: p.terms.lateness(),
+    }
 }
 
 // The job's copy in the quiet set of machine g, if it has one there.
@@ -31,7 +35,11 @@ pub(crate) fn quiet_copy(p: &Placement, g: u8) -> Option<JobCopy>
         Status::Passive => None,
         Status::Active => {
             if p.standby == g {
-                Some(JobCopy { terms: p.terms, role: Role::Standby, lateness: p.terms.lateness() })
+                Some(JobCopy {
+                    terms: p.terms,
+                    role: Role::Standby,
+                    lateness: p.terms.lateness(),
+                })
             } else {
                 None
             }
@@ -46,7 +54,11 @@ pub(crate) fn passive_copy(p: &Placement, late: u32, g: u8, f: u8) -> Option<Job
     match p.status {
         Status::Passive => {
             if p.standby == g && p.primary == f {
-                Some(JobCopy { terms: p.terms, role: Role::Standby, lateness: late })
+                Some(JobCopy {
+                    terms: p.terms,
+                    role: Role::Standby,
+                    lateness: late,
+                })
             } else {
                 None
             }
@@ -91,7 +103,13 @@ fn add_loss(copies: &mut Vec<JobCopy>, p: &Placement, late: u32, g: u8, f: u8)
 }
 
 // The loss set of machine g when f stops, with each placement's passive lateness given.
-pub(crate) fn gather_loss(placements: &[Placement], lates: &[u32], g: u8, f: u8, copies: &mut Vec<JobCopy>)
+pub(crate) fn gather_loss(
+    placements: &[Placement],
+    lates: &[u32],
+    g: u8,
+    f: u8,
+    copies: &mut Vec<JobCopy>,
+)
     requires room { ⌜ 2 * length (now placements) ≤ vec-cap (now copies) ⌝ }
     requires same { ⌜ length (now lates) ≡ length (now placements) ⌝ }
     ensures items { λ _. ⌜ vec-items (now (copies .exit)) ≡ loss-with (now (lates .entry)) g f (now (placements .entry)) ⌝ }

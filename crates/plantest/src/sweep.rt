@@ -26,7 +26,11 @@ fn standby_copy(p: &Placement, late: u32) -> JobCopy
         Status::Passive => late,
         Status::Active => p.terms.lateness(),
     };
-    JobCopy { terms: p.terms, role: Role::Standby, lateness }
+    JobCopy {
+        terms: p.terms,
+        role: Role::Standby,
+        lateness,
+    }
 }
 
 // Whether the job's copies that stand in this loss set have figures there.
@@ -43,7 +47,12 @@ fn fits_in<R: Precedence>(rule: &R, set: &[JobCopy], p: &Placement, late: u32, g
 }
 
 // Whether every primary has its quiet figure; then these are the latenesses of the passive standbys.
-pub(crate) fn quiet_figures<R: Precedence>(rule: &R, placements: &[Placement], copies: &mut Vec<JobCopy>, lates: &mut Vec<u32>) -> bool
+pub(crate) fn quiet_figures<R: Precedence>(
+    rule: &R,
+    placements: &[Placement],
+    copies: &mut Vec<JobCopy>,
+    lates: &mut Vec<u32>,
+) -> bool
     requires copies_room { ⌜ length (now placements) ≤ vec-cap (now copies) ⌝ }
     requires lates_room { ⌜ length (now placements) ≤ vec-cap (now lates) ⌝ }
     ensures test { λ r. ⌜ r ≡ quiet-passes (R·Precedence .before (now (rule .entry))) (now (placements .entry)) ⌝ }
@@ -63,7 +72,14 @@ pub(crate) fn quiet_figures<R: Precedence>(rule: &R, placements: &[Placement], c
 }
 
 // Whether every copy in the loss set of g when f stops has its figure there.
-fn pair_fits<R: Precedence>(rule: &R, placements: &[Placement], lates: &[u32], g: u8, f: u8, copies: &mut Vec<JobCopy>) -> bool
+fn pair_fits<R: Precedence>(
+    rule: &R,
+    placements: &[Placement],
+    lates: &[u32],
+    g: u8,
+    f: u8,
+    copies: &mut Vec<JobCopy>,
+) -> bool
     requires room { ⌜ 2 * length (now placements) ≤ vec-cap (now copies) ⌝ }
     requires figures { ⌜ now lates ≡ map (passive-late (R·Precedence .before (now rule)) (now placements)) (now placements) ⌝ }
     ensures test { λ r. ⌜ r ≡ pair-passes (R·Precedence .before (now (rule .entry))) (now (placements .entry)) g f ⌝ }
@@ -79,7 +95,14 @@ fn pair_fits<R: Precedence>(rule: &R, placements: &[Placement], lates: &[u32], g
 }
 
 // The same, but that g itself is none of the machines that may stop.
-fn lost_fits<R: Precedence>(rule: &R, placements: &[Placement], lates: &[u32], g: u8, f: u8, copies: &mut Vec<JobCopy>) -> bool
+fn lost_fits<R: Precedence>(
+    rule: &R,
+    placements: &[Placement],
+    lates: &[u32],
+    g: u8,
+    f: u8,
+    copies: &mut Vec<JobCopy>,
+) -> bool
     requires room { ⌜ 2 * length (now placements) ≤ vec-cap (now copies) ⌝ }
     requires figures { ⌜ now lates ≡ map (passive-late (R·Precedence .before (now rule)) (now placements)) (now placements) ⌝ }
     ensures test { λ r. ⌜ r ≡ lost-passes (R·Precedence .before (now (rule .entry))) (now (placements .entry)) g f ⌝ }
@@ -92,7 +115,14 @@ fn lost_fits<R: Precedence>(rule: &R, placements: &[Placement], lates: &[u32], g
 }
 
 // Whether every copy on g has its figures, whichever other machine stops.
-pub(crate) fn machine_fits<R: Precedence>(rule: &R, machines: u8, placements: &[Placement], lates: &[u32], g: u8, copies: &mut Vec<JobCopy>) -> bool
+pub(crate) fn machine_fits<R: Precedence>(
+    rule: &R,
+    machines: u8,
+    placements: &[Placement],
+    lates: &[u32],
+    g: u8,
+    copies: &mut Vec<JobCopy>,
+) -> bool
     requires room { ⌜ 2 * length (now placements) ≤ vec-cap (now copies) ⌝ }
     requires figures { ⌜ now lates ≡ map (passive-late (R·Precedence .before (now rule)) (now placements)) (now placements) ⌝ }
     ensures test { λ r. ⌜ r ≡ machine-passes (R·Precedence .before (now (rule .entry))) machines (now (placements .entry)) g ⌝ }

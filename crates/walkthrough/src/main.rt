@@ -1,6 +1,7 @@
 // One task from start to end, told step by step for support staff.
 mod longtable;
 mod machine;
+mod rack_plan;
 mod refusals;
 
 use std::io;
@@ -12,5 +13,7 @@ fn main(rt: LibcRuntime) -> io::Result<()> {
     println!(rt, "")?;
     machine::tell(&rt)?;
     println!(rt, "")?;
-    longtable::tell(&rt)
+    longtable::tell(&rt)?;
+    println!(rt, "")?;
+    rack_plan::tell(&rt)
 }

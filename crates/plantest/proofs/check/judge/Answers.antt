@@ -33,8 +33,7 @@ pub returns : need.returns
 returns g c =
     let b = g .R·Precedence .before (c .args .rule .now) in
     let m = c .args .machines in
-    let ps = c .args .placements .now in
-    (
+    let ps = c .args .placements .now in (
       plan-means m ps (sym (c .if-not-is-plan-of .ensures tt)),
       λ pass. both-ways _ (sym (c .if-passes-on .ensures tt)) (passes-true b m ps pass),
     )

@@ -17,8 +17,7 @@ returns-then-not-machine-fits g c =
 
 pub loop-g-again : need.loop-g-again
 loop-g-again g c =
-    let test = machine-passes (g .R·Precedence .before (c .args .rule .now)) (c .args .machines) (c .args .placements .now) in
-    (
+    let test = machine-passes (g .R·Precedence .before (c .args .rule .now)) (c .args .machines) (c .args .placements .now) in (
       all-below-more test (c .loop-g .g) ∙ and-from _ _ (c .loop-g .inv .0) (sym (c .if-not-machine-fits .ensures tt .test)),
       c .loop-g .inv .1,
       omega (arith, c .machine-fits .ensures .copies-kept),

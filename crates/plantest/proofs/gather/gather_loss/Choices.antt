@@ -7,6 +7,6 @@ use Rattle.plantest.proofs.gather.gather_loss.Given as given
 
 abbrev pub Inv-loop-i : given.InvT-loop-i
 Inv-loop-i l =
-  (vec-items (l .copies) ≡ loss-with (take (l .i) (l .lates)) (l .g) (l .f) (take (l .i) (l .placements)))
-  × (vec-len (l .copies) ≤ 2 * l .i)
-  × (vec-cap (l .copies) ≡ vec-cap (l .entry .copies))
+    (vec-items (l .copies) ≡ loss-with (take (l .i) (l .lates)) (l .g) (l .f) (take (l .i) (l .placements)))
+    × (vec-len (l .copies) ≤ 2 * l .i)
+    × (vec-cap (l .copies) ≡ vec-cap (l .entry .copies))

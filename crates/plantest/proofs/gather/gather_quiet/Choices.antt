@@ -7,6 +7,6 @@ use Rattle.plantest.proofs.gather.gather_quiet.Given as given
 
 abbrev pub Inv-loop-p : given.InvT-loop-p
 Inv-loop-p l =
-  (vec-items (l .copies) ≡ quiet (l .g) (take (l .p-index) (l .placements)))
-  × (vec-len (l .copies) ≤ l .p-index)
-  × (vec-cap (l .copies) ≡ vec-cap (l .entry .copies))
+    (vec-items (l .copies) ≡ quiet (l .g) (take (l .p-index) (l .placements)))
+    × (vec-len (l .copies) ≤ l .p-index)
+    × (vec-cap (l .copies) ≡ vec-cap (l .entry .copies))

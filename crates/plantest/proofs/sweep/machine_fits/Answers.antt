@@ -14,8 +14,7 @@ returns-then-not-lost-fits g c =
 
 pub loop-f-again : need.loop-f-again
 loop-f-again g c =
-    let test = lost-passes (g .R·Precedence .before (c .args .rule .now)) (c .args .placements .now) (c .args .g) in
-    (
+    let test = lost-passes (g .R·Precedence .before (c .args .rule .now)) (c .args .placements .now) (c .args .g) in (
       all-below-more test (c .loop-f .f) ∙ and-from _ _ (c .loop-f .inv .0) (sym (c .if-not-lost-fits .ensures tt .test)),
       c .lost-fits .ensures .copies-kept ∙ c .loop-f .inv .1,
     )

@@ -7,5 +7,5 @@ use Rattle.plantest.proofs.sweep.machine_fits.Given as given
 
 abbrev pub Inv-loop-f : given.InvT-loop-f
 Inv-loop-f g l =
-  (all-below (l .f) (lost-passes (g .R·Precedence .before (l .rule)) (l .placements) (l .g)) ≡ true)
-  × (vec-cap (l .copies) ≡ vec-cap (l .entry .copies))
+    (all-below (l .f) (lost-passes (g .R·Precedence .before (l .rule)) (l .placements) (l .g)) ≡ true)
+    × (vec-cap (l .copies) ≡ vec-cap (l .entry .copies))

@@ -19,7 +19,7 @@ returns-in-None g c =
     let ps = c .args .placements .now in
     let p = c .p-item .result in
     let none : None ≡ quiet-figure b ps p =
-      quiet-found b ps p (c .as-slice .result .now) (c .primary-copy .result) None (c .in-None .ensures tt .value) (c .as-slice .ensures .value ∙ c .gather-quiet .ensures .items) (c .primary-copy .ensures)
+    quiet-found b ps p (c .as-slice .result .now) (c .primary-copy .result) None (c .in-None .ensures tt .value) (c .as-slice .ensures .value ∙ c .gather-quiet .ensures .items) (c .primary-copy .ensures)
     in
     record {
       test = sym (all-of-part-false (has-quiet b ps) ps p (in-at ps (c .loop-p .p-index) p (c .loop-p-test .taken) (c .p-item .is)) (ap isSome (sym none)));
@@ -35,12 +35,11 @@ loop-p-again g c =
     let p = c .p-item .result in
     let late = c .in-Some .late in
     let found : Some late ≡ quiet-figure b ps p =
-      quiet-found b ps p (c .as-slice .result .now) (c .primary-copy .result) (Some late) (c .in-Some .ensures tt .value) (c .as-slice .ensures .value ∙ c .gather-quiet .ensures .items) (c .primary-copy .ensures)
+    quiet-found b ps p (c .as-slice .result .now) (c .primary-copy .result) (Some late) (c .in-Some .ensures tt .value) (c .as-slice .ensures .value ∙ c .gather-quiet .ensures .items) (c .primary-copy .ensures)
     in
     let is = passive-found b ps p late found in
     let more = map-more (passive-late b ps) ps (c .loop-p .p-index) p (c .loop-p-test .taken) (c .p-item .is) in
-    let held = c .loop-p .inv .1 in
-    (
+    let held = c .loop-p .inv .1 in (
       quiet-more b ps ps (c .loop-p .p-index) p late (c .loop-p-test .taken) (c .p-item .is) found (c .loop-p .inv .0),
       (cc),
       omega arith,
