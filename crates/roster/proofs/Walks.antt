@@ -43,9 +43,10 @@ module _ (ps : List Placement) (i : ℕ) (x : Placement) (lt : i < length ps) (r
         false ≡ eqb (number x) n → (find n ps ≡ find n (drop i ps)) × Passes-by (without n) ps i →
         (find n ps ≡ find n (drop (i + 1) ps)) × Passes-by (without n) ps (i + 1)
     other-number other so-far =
-        let rest = drop (i + 1) ps in
-        (so-far .0 ∙ ap (find n) left-from ∙ cond-false (eqb (number x) n) (Some x) (find n rest) (sym other),
-         passes-one (without n) (cond-false (eqb (number x) n) rest (x ∷ without n rest) (sym other)) (so-far .1))
+        let rest = drop (i + 1) ps in (
+          so-far .0 ∙ ap (find n) left-from ∙ cond-false (eqb (number x) n) (Some x) (find n rest) (sym other),
+          passes-one (without n) (cond-false (eqb (number x) n) rest (x ∷ without n rest) (sym other)) (so-far .1),
+        )
 
     -- the placement at hand has the number
     pub its-number :
