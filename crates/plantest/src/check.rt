@@ -1,6 +1,7 @@
 ghost use Prim.Native.Nat.{_≤_};
 ghost use mathlib.Core.Path.{_≡_};
 ghost use lib.ListN.{length};
+ghost use Rattle.std.specs.Of.Vec.{vec-items};
 ghost use Rattle.std.specs.Vec.{made};
 ghost use Rattle.rack.specs.Plan.{Arranged};
 ghost use Rattle.rack.specs.Test.{passes};
@@ -12,6 +13,7 @@ use crate::verdict::Verdict;
 use crate::workspace::Workspace;
 use precedence::Precedence;
 use rack::Placement;
+use roster::Roster;
 use std::alloc::AllocError;
 use std::alloc::Global;
 
@@ -73,4 +75,11 @@ pub fn check_plan<R: Precedence>(
 {
     let mut space = Workspace::new(heap)?;
     Ok(judge(rule, machines, placements, &mut space))
+}
+
+// Whether the plan of a roster passes. Needs no memory but the workspace.
+pub fn roster_passes<R: Precedence>(rule: &R, roster: &Roster, space: &mut Workspace) -> bool
+    ensures { λ r. ⌜ r ≡ passes (R·Precedence .before (now (rule .entry))) (now (roster .entry) .machines) (vec-items (now (roster .entry) .placements)) ⌝ }
+{
+    passes_on(rule, roster.machines(), roster.placements(), space)
 }

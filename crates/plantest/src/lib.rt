@@ -8,5 +8,6 @@ mod verdict;
 mod workspace;
 
 pub use check::check_plan;
+pub use check::roster_passes;
 pub use verdict::Verdict;
 pub use workspace::Workspace;

@@ -1,11 +1,16 @@
 -- Terms are their numbers: two with the same numbers are the same.
-use mathlib.Core.Path.{_≡_, sym, _∙_}
+use mathlib.Core.Path.{_≡_, refl, sym, ap, _∙_}
+use mathlib.Core.Bool.{Bool, true, false}
 use mathlib.Core.HLevel.{isProp→PathP}
 use Prim.Native.Nat.{ℕ, _+_, _≤_}
 use native.Mathlib.Bridge.{le-prop}
 use Rattle.terms.specs.declared.draft.Draft.{Draft}
 use Rattle.terms.specs.declared.terms.Terms.{Terms}
-use Rattle.terms.specs.Making.{Of}
+use Rattle.std.proofs.shelf.Tests.{both-ways}
+use Rattle.std.specs.declared.option.Option.{Option}
+use Rattle.std.specs.declared.option.Option.the-variants.{Some, None}
+use Rattle.terms.specs.Limits.{lawful}
+use Rattle.terms.specs.Making.{Of, terms-of, terms-if, drafted}
 
 pub same-numbers :
     (t u : Terms) → t .number ≡ u .number → t .period ≡ u .period → t .deadline ≡ u .deadline →
@@ -27,3 +32,19 @@ same-numbers t u n p d r s l = λ i. record {
 pub of-one-draft : (draft : Draft) (t u : Terms) → Of draft t → Of draft u → t ≡ u
 of-one-draft draft t u a b =
     same-numbers t u (a .number ∙ sym (b .number)) (a .period ∙ sym (b .period)) (a .deadline ∙ sym (b .deadline)) (a .run ∙ sym (b .run)) (a .standby ∙ sym (b .standby)) (a .lateness ∙ sym (b .lateness))
+
+-- terms with a lawful draft's numbers are what the draft makes
+pub drafted-some : (draft : Draft) (t : Terms) → lawful draft ≡ true → Of draft t → drafted draft ≡ Some t
+drafted-some draft t ok made = go (lawful draft) refl ok
+  where
+    go : (b : Bool) (e : lawful draft ≡ b) → b ≡ true → terms-if draft b e ≡ Some t
+    go true e yes′ = ap Some (of-one-draft draft (terms-of draft e) t (record { number = refl; period = refl; deadline = refl; run = refl; standby = refl; lateness = refl }) made)
+    go false e yes′ = absurd (both-ways false refl yes′)
+
+-- an unlawful draft makes none
+pub drafted-none : (draft : Draft) → lawful draft ≡ false → drafted draft ≡ None
+drafted-none draft no′ = go (lawful draft) refl no′
+  where
+    go : (b : Bool) (e : lawful draft ≡ b) → b ≡ false → terms-if draft b e ≡ None
+    go true e no″ = absurd (both-ways true no″ refl)
+    go false e no″ = refl

@@ -1,6 +1,8 @@
 -- What terms are made of.
-use mathlib.Core.Path.{_≡_}
-use mathlib.Core.Bool.{true}
+use mathlib.Core.Path.{_≡_, refl}
+use mathlib.Core.Bool.{Bool, true, false}
+use Rattle.std.specs.declared.option.Option.{Option}
+use Rattle.std.specs.declared.option.Option.the-variants.{Some, None}
 use Rattle.std.proofs.shelf.Tests.{and-parts, leb-true}
 use Rattle.terms.specs.declared.draft.Draft.{Draft}
 use Rattle.terms.specs.declared.terms.Terms.{Terms}
@@ -37,3 +39,11 @@ terms-of d ok =
       fitting = (leb-true _ _ (f .0), leb-true _ _ (g .0));
       bounded = (leb-true _ _ (h .0), leb-true _ _ (h .1));
     }
+
+-- any draft as terms, if it is lawful
+abbrev pub terms-if : (d : Draft) (b : Bool) → lawful d ≡ b → Option Terms
+terms-if d true ok = Some (terms-of d ok)
+terms-if d false no-terms = None
+
+abbrev pub drafted : Draft → Option Terms
+drafted d = terms-if d (lawful d) refl

@@ -1,0 +1,5 @@
+pub mod Choices
+pub mod Answers
+pub mod Figures
+pub mod Refused
+pub mod Trying
