@@ -2,7 +2,7 @@
 use mathlib.Core.Path.{_≡_, refl, sym, ap, subst, _∙_}
 use mathlib.Core.Bool.{Bool, true, false, cond, not, _&&_, _||_}
 use mathlib.Core.List.{List, [], _∷_, _++_, map}
-use Prim.Native.Nat.{ℕ, zero, suc, _+_, _<_}
+use Prim.Native.Nat.{ℕ, zero, suc, _+_, _<_, max}
 use native.Mathlib.Nat.{not-suc-le-zero, le-of-suc-le-suc}
 use native.Mathlib.Numerals.{add-one}
 use native.Mathlib.Omega.{arith}
@@ -23,6 +23,7 @@ use Rattle.rack.specs.Test.{all-of, all-below, loss-figure, standby-figure, Fit
 use Rattle.rack.proofs.Tested.{all-of-more, all-of-each, each-all-of, all-below-each, each-all-below, all-below-part-false, passes-means, passes-true}
 use Rattle.figures.specs.declared.copies.Role.the-variants.{Primary, Standby}
 use Rattle.plantest.specs.Parts.{loss-with}
+use Rattle.plantest.specs.JobFigures.{largest-lost, lost-shown}
 use Rattle.plantest.specs.Sweep.{has-quiet, copies-fit, pair-fits, pair-passes, lost-passes, machine-passes, quiet-passes, sweep}
 use Rattle.plantest.proofs.Gathers.{loss-is}
 
@@ -161,3 +162,21 @@ module _ (before : Terms → Terms → Bool) (m : ℕ) (ps : List Placement) (ar
 
   pub all-swept : quiet-passes before ps ≡ true → all-below m (machine-passes before m ps) ≡ true → passes before m ps ≡ true
   all-swept quiet machines = sym sweep-is ∙ and-from _ _ quiet machines
+
+-- the figure of a copy in the gathered loss set
+pub loss-found :
+    (before : Terms → Terms → Bool) (ps : List Placement) (lates : List ℕ) (set : List JobCopy) (g f : ℕ) (own copy : JobCopy) (r : Option ℕ) →
+    r ≡ figure-of before set own → set ≡ loss-with lates g f ps → lates ≡ map (passive-late before ps) ps → own ≡ copy →
+    r ≡ figure-of before (loss before ps g f) copy
+loss-found before ps lates set g f own copy r is gathered figures same =
+    is
+    ∙ ap (λ s. figure-of before s own) (gathered ∙ ap (λ l. loss-with l g f ps) figures ∙ loss-is before ps ps g f)
+    ∙ ap (λ o. figure-of before (loss before ps g f) o) same
+
+-- there are as many latenesses as placements
+pub lates-long : (before : Terms → Terms → Bool) (ps : List Placement) (lates : List ℕ) → lates ≡ map (passive-late before ps) ps → length lates ≡ length ps
+lates-long before ps lates figures = ap length figures ∙ map-length (passive-late before ps) ps
+
+-- one machine more
+pub largest-more : (before : Terms → Terms → Bool) (ps : List Placement) (p : Placement) (n : ℕ) → largest-lost before ps p (n + 1) ≡ max (largest-lost before ps p n) (lost-shown before ps p n)
+largest-more before ps p n = ap (largest-lost before ps p) (add-one n)

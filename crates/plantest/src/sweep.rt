@@ -19,7 +19,7 @@ use rack::Placement;
 use rack::Status;
 
 // The job's standby copy, with its lateness where it is passive.
-fn standby_copy(p: &Placement, late: u32) -> JobCopy
+pub(crate) fn standby_copy(p: &Placement, late: u32) -> JobCopy
     ensures { λ r. ⌜ r ≡ copy-of Standby (now (p .entry)) (cond (active (now (p .entry) .status)) (now (p .entry) .terms .lateness) late) ⌝ }
 {
     let lateness = match p.status {
