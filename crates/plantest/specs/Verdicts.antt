@@ -6,7 +6,7 @@ use Rattle.terms.specs.declared.terms.Terms.{Terms}
 use Rattle.rack.specs.declared.placement.Placement.{Placement}
 use Rattle.rack.specs.Plan.{Plan}
 use Rattle.rack.specs.Test.{Passes}
-use Rattle.rack.specs.Covered.{Covered}
+use Rattle.rack.specs.Covered.{Covered, OneRun}
 use Rattle.rack.specs.Fewer.{FewerPass}
 use Rattle.plantest.specs.declared.verdict.Verdict.{Verdict}
 use Rattle.plantest.specs.declared.verdict.Verdict.the-variants.{NoPlan, Fails, Passing}
@@ -19,9 +19,10 @@ pub record Safe (before : Terms → Terms → Bool) (m : ℕ) (ps : List Placeme
   pub covered : Covered before m ps
   pub fewer : FewerPass before m ps
 
+-- a plan that fails still has its one run on every day
 abbrev pub Means : (Terms → Terms → Bool) → ℕ → List Placement → Verdict → Type 0
 Means before m ps NoPlan = Plan m ps → ⊥
-Means before m ps Fails = Plan m ps × (Passes before m ps → ⊥)
+Means before m ps Fails = Plan m ps × (Passes before m ps → ⊥) × OneRun before ps
 Means before m ps Passing = Safe before m ps
 
 -- 0, 1, 2

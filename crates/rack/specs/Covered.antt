@@ -22,6 +22,10 @@ pub record Outcome (before : Terms → Terms → Bool) (ps : List Placement) (da
   pub keeps : Keeps before ps day stop run
   pub only : (other : Run) → Keeps before ps day stop other → (g t : ℕ) → other g t ≡ run g t
 
+-- every day has its one run, also where the plan does not pass
+abbrev pub OneRun : (Terms → Terms → Bool) → List Placement → Type 0
+OneRun before ps = (day : Day) (stop : Stop) → Outcome before ps day stop
+
 -- on every day, whichever machine of the rack stops at whichever tick, or none, the day has its one run,
 -- and in it every call-up of every job has a copy that finishes on time
 abbrev pub Covered : (Terms → Terms → Bool) → ℕ → List Placement → Type 0

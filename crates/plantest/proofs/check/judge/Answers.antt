@@ -1,5 +1,6 @@
 use mathlib.Core.Path.{_≡_, refl, sym, _∙_}
 use Rattle.std.proofs.shelf.Tests.{both-ways}
+use Rattle.rack.proofs.Plays.{outcome}
 use Rattle.rack.proofs.Promise.{covered}
 use Rattle.rack.proofs.Parts.{fewer-pass}
 use Rattle.rack.proofs.Tested.{passes-means, passes-true}
@@ -36,4 +37,5 @@ returns g c =
     let ps = c .args .placements .now in (
       plan-means m ps (sym (c .if-not-is-plan-of .ensures tt)),
       λ pass. both-ways _ (sym (c .if-passes-on .ensures tt)) (passes-true b m ps pass),
+      outcome b (g .R·Precedence·met .orders (c .args .rule .now)) m ps (plan .arranged),
     )
