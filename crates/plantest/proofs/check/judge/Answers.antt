@@ -34,8 +34,9 @@ pub returns : need.returns
 returns g c =
     let b = g .R·Precedence .before (c .args .rule .now) in
     let m = c .args .machines in
-    let ps = c .args .placements .now in (
-      plan-means m ps (sym (c .if-not-is-plan-of .ensures tt)),
+    let ps = c .args .placements .now in
+    let plan = plan-means m ps (sym (c .if-not-is-plan-of .ensures tt)) in (
+      plan,
       λ pass. both-ways _ (sym (c .if-passes-on .ensures tt)) (passes-true b m ps pass),
       outcome b (g .R·Precedence·met .orders (c .args .rule .now)) m ps (plan .arranged),
     )
