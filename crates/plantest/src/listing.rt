@@ -1,7 +1,7 @@
 ghost use mathlib.Core.Path.{_≡_};
 ghost use Rattle.plantest.specs.PlanTest.{each-once, has-number, is-plan};
-ghost use Rattle.roster.specs.Rising.{all-placed, placed};
 use rack::Placement;
+use roster::all_placed_in;
 
 // Whether a job of this number is among the placements.
 fn has_number_in(placements: &[Placement], number: u32) -> bool
@@ -22,24 +22,6 @@ fn each_once_in(placements: &[Placement]) -> bool
     for i in 0..placements.len() {
         let (_, rest) = placements.split_at(i + 1);
         if has_number_in(rest, placements[i].terms.number()) {
-            return false;
-        }
-    }
-    true
-}
-
-// Whether the two machines differ and are of the rack.
-fn is_placed(machines: u8, p: &Placement) -> bool
-    ensures { λ r. ⌜ r ≡ placed machines (now (p .entry)) ⌝ }
-{
-    p.primary < machines && p.standby < machines && p.primary != p.standby
-}
-
-fn all_placed_in(machines: u8, placements: &[Placement]) -> bool
-    ensures { λ r. ⌜ r ≡ all-placed machines (now (placements .entry)) ⌝ }
-{
-    for p in placements {
-        if !is_placed(machines, p) {
             return false;
         }
     }

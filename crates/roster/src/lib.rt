@@ -5,5 +5,7 @@ mod loading;
 mod places;
 mod reading;
 mod roster;
+mod taking;
 
 pub use roster::Roster;
+pub use taking::all_placed_in;

@@ -2,8 +2,8 @@ use mathlib.Core.Path.{_≡_, sym, ap, _∙_}
 use lib.Seq.{take-all}
 use Rattle.std.proofs.shelf.Tests.{and-from}
 use Rattle.rack.proofs.Tested.{in-at, all-of-more, all-of-part-false}
 use Rattle.roster.specs.Rising.{placed, all-placed}
-use Rattle.plantest.proofs.listing.all_placed_in.Needs as need
+use Rattle.roster.proofs.taking.all_placed_in.Needs as need
 
 pub returns-then-not-is-placed : need.returns-then-not-is-placed
 returns-then-not-is-placed c =
