@@ -29,7 +29,9 @@ impl Roster {
     fn takes(&self, p: &Placement) -> bool
         ensures { λ r. ⌜ r ≡ addable (now (self .entry) .machines) (vec-items (now (self .entry) .placements)) (now (p .entry)) ⌝ }
     {
-        self.find(p.terms.number()).is_none() && self.placements.len() < 96 && is_placed(self.machines, p)
+        self.find(p.terms.number()).is_none()
+            && self.placements.len() < 96
+            && is_placed(self.machines, p)
     }
 
     // Puts a job in at its place, if it may be.

@@ -9,7 +9,7 @@ returns-then-is-below c =
     record {
       within = omega arith;
       there = stands-before ps (c .loop-i .i) (c .index-placements-i .result) (c .loop-i-test .taken) (c .index-placements-i .is) (c .args .p .now)
-      (c .if-is-below .ensures tt) (c .loop-i .inv);
+          (c .if-is-below .ensures tt) (c .loop-i .inv);
       keeps = λ m may is. orderly-with-job m (c .args .p .now) ps may is;
     }
 

@@ -7,7 +7,7 @@ returns-then-has-number c =
     let ps = c .args .placements .now in
     record {
       cases = its-number ps (c .loop-i .i) (c .index-placements-i .result) (c .loop-i-test .taken) (c .index-placements-i .is) (c .args .number)
-      (c .if-has-number .ensures tt) (c .loop-i .inv);
+          (c .if-has-number .ensures tt) (c .loop-i .inv);
       keeps = λ m is. orderly-without m (c .args .number) ps is;
     }
 
