@@ -1,0 +1,8 @@
+-- The number of a pair and the machines of a number undo each other.
+use mathlib.Core.Path.{_≡_}
+use Rattle.pairs.specs.Pairs.{Inverse, pair-machines, pair-number}
+use native.Mathlib.Omega.{arith}
+use Rattle.std.proofs.shelf.Ways.{tells}
+
+pub inverse : Inverse
+inverse q p b = (λ h. grind (arith, tells), λ h. grind (arith, tells))
