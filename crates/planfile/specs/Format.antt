@@ -77,14 +77,17 @@ job-at xs = job (draft-at xs) (getD xs 23 0) (getD xs 24 0)
 abbrev pub whole : ℕ → List ℕ → Rec → Option (Rec × List ℕ)
 whole n xs r = cond (ltb (length xs) n) None (Some (r, drop n xs))
 
+-- a record of that kind, where it stands first in the bytes
+abbrev pub of-kind : ℕ → List ℕ → Option (Rec × List ℕ)
+of-kind kind xs =
+    cond (eqb kind 1) (whole 3 xs (head (getD xs 1 0) (getD xs 2 0)))
+    (cond (eqb kind 2) (whole 25 xs (job-at xs))
+    (cond (eqb kind 3) (whole 17 xs (note (take 16 (drop 1 xs))))
+    (cond (eqb kind 9) (whole 1 xs end) None)))
+
 -- the record that stands first in the bytes, if any
 abbrev pub parse-record : List ℕ → Option (Rec × List ℕ)
-parse-record xs =
-    cond (eqb (length xs) 0) None
-    (cond (eqb (getD xs 0 0) 1) (whole 3 xs (head (getD xs 1 0) (getD xs 2 0)))
-    (cond (eqb (getD xs 0 0) 2) (whole 25 xs (job-at xs))
-    (cond (eqb (getD xs 0 0) 3) (whole 17 xs (note (take 16 (drop 1 xs))))
-    (cond (eqb (getD xs 0 0) 9) (whole 1 xs end) None))))
+parse-record xs = cond (eqb (length xs) 0) None (of-kind (getD xs 0 0) xs)
 
 -- what was written is read back, whatever follows it
 abbrev pub ReadsBack : Type 0

@@ -3,7 +3,7 @@ ghost use Prim.Native.Nat.{_+_, _<_, _≤_};
 ghost use lib.Dec.{eqb};
 ghost use lib.ListN.{drop, length};
 ghost use Rattle.std.specs.Options.{Cases};
-ghost use Rattle.planfile.specs.Format.{job-at, number-2, number-4, parse-record};
+ghost use Rattle.planfile.specs.Format.{ReadsBack, ReadsOnly, job-at, number-2, number-4, parse-record};
 ghost use Rattle.planfile.specs.Shown.{ahead, rec-of, shown, shown-first};
 use crate::reader::Reader;
 use crate::record::JobRecord;
@@ -110,6 +110,7 @@ impl<'a> Reader<'a> {
     fn rest(&self) -> &'a [u8]
         ensures part { λ r. ⌜ now r ≡ ahead (now (self .entry)) ⌝ }
         ensures size { λ r. ⌜ now (self .entry) .at + length (now r) ≡ length (now (now (self .entry) .bytes)) ⌝ }
+        ensures format { λ _. ⌜ ReadsBack × ReadsOnly ⌝ }
     {
         let (_, rest) = self.bytes.split_at(self.at);
         rest
@@ -128,6 +129,7 @@ impl<'a> Reader<'a> {
     pub fn next(&mut self) -> Option<Record<'a>>
         ensures reads { λ r. ⌜ parse-record (ahead (now (self .entry))) ≡ shown r (ahead (now (self .exit))) ⌝ }
         ensures moves { λ r. ⌜ Cases r (ahead (now (self .exit)) ≡ ahead (now (self .entry))) (λ _. length (ahead (now (self .exit))) < length (ahead (now (self .entry)))) ⌝ }
+        ensures format { λ _. ⌜ ReadsBack × ReadsOnly ⌝ }
     {
         match read_one(self.rest()) {
             None => None,
