@@ -8,6 +8,7 @@ use lib.ListN.{length}
 use Rattle.std.specs.Options.{mapped}
 use Rattle.std.specs.declared.option.Option.{Option}
 use Rattle.std.specs.declared.option.Option.the-variants.{Some, None}
+use Rattle.terms.specs.declared.draft.Draft.{Draft}
 use Rattle.rack.specs.declared.placement.Placement.{Placement}
 use Rattle.planfile.specs.Format.{Rec, head, job, note, end, Bytes, parse-record}
 use Rattle.planfile.specs.Jobs.{placement-of}
@@ -21,11 +22,15 @@ abbrev pub after-job : Option Placement → Option (List Placement) → Option (
 after-job None rest = None
 after-job (Some p) rest = mapped (λ ps. p ∷ ps) rest
 
+-- a job's placement, if there is room for it and its number is larger than the last
+abbrev pub admitted : ℕ → ℕ → ℕ → Draft → ℕ → ℕ → Option Placement
+admitted m last jobs d q s = cond (ltb jobs 96 && ltb last (d .number)) (placement-of m d q s) None
+
 -- one record between head and end, and then the rest
 abbrev pub judge : ℕ → ℕ → ℕ → ℕ → Onward → Rec → List ℕ → Option (List Placement)
 judge m last jobs notes onward (head code machines) xs = None
 judge m last jobs notes onward (job d q s) xs =
-    cond (ltb jobs 96 && ltb last (d .number)) (after-job (placement-of m d q s) (onward (d .number) (jobs + 1) notes xs)) None
+    after-job (admitted m last jobs d q s) (onward (d .number) (jobs + 1) notes xs)
 judge m last jobs notes onward (note text) xs = cond (ltb notes 64) (onward last jobs (notes + 1) xs) None
 judge m last jobs notes onward end xs = cond (eqb (length xs) 0) (Some []) None
 

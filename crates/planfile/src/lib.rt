@@ -1,5 +1,6 @@
-// The plan file: its records, and a reader over the bytes that a caller lends.
-// Knows which bytes are a record; knows no plan test, no figure, and no rule but by its code.
+// The plan file: its records, a reader over the bytes that a caller lends, and which bytes are a plan file.
+// Knows no plan test, no figure, and no rule but by its code.
+mod file;
 mod reader;
 mod reads;
 mod record;
