@@ -1,2 +1,5 @@
+mod Ways
 mod Numbers
 mod Records
+mod Places
+mod Bodies

@@ -14,6 +14,7 @@ use Rattle.std.specs.declared.option.Option.{Option}
 use Rattle.std.specs.declared.option.Option.the-variants.{Some, None}
 use Rattle.terms.specs.declared.draft.Draft.{Draft}
 use Rattle.planfile.specs.Format.{Rec, head, job, note, end, encode, Fits, Bytes, parse-record, of-kind, draft-at, job-at, bytes-2, bytes-4, number-2, number-4, ReadsBack, ReadsOnly, whole}
+use Rattle.planfile.proofs.Ways.{split, none-some}
 use Rattle.planfile.proofs.Numbers.{value-2, value-4, digits-2, digits-4}
 
 same-draft : (d e : Draft) → e .number ≡ d .number → e .period ≡ d .period → e .deadline ≡ d .deadline → e .run ≡ d .run → e .standby ≡ d .standby → e .lateness ≡ d .lateness → e ≡ d
@@ -62,14 +63,6 @@ spanned (suc n) i xs h =
     let next : drop (suc i) xs ≡ span n (suc i) xs ++ drop (suc i + n) xs = spanned n (suc i) xs (omega arith) in
     let same : suc i + n ≡ i + suc n = omega arith in
     drop-cons xs i 0 lt ∙ ap (λ (ys : List ℕ). getD xs i 0 ∷ ys) (next ∙ ap (λ (k : ℕ). span n (suc i) xs ++ drop k xs) same)
-
--- which way a test went
-split : {A : Type 0} (b : Bool) (x y z : A) → cond b x y ≡ z → ((b ≡ true) × (x ≡ z)) ⊎ ((b ≡ false) × (y ≡ z))
-split true x y z e = inl (refl, e)
-split false x y z e = inr (refl, e)
-
-none-some : {A : Type 0} (x : A) (P : Type 0) → None ≡ Some x → P
-none-some x P e = let z : _≡_ {A = ℕ} 0 1 = cc in absurd (let f : ⊥ = omega arith in f)
 
 -- a whole record: its bytes are there, and what was read is it
 pub record Whole (n : ℕ) (xs : List ℕ) (found r : Rec) (rest : List ℕ) : Type 0 where
@@ -150,23 +143,51 @@ read-so n xs found r rest stands e =
     let w = whole-is n xs found r rest e in
     subst (λ (v : List ℕ). Stands xs r v) (w .after) (subst (λ (v : Rec). Stands xs v (drop n xs)) (w .is) (stands (w .there)))
 
-pub reads-only : ReadsOnly
-reads-only xs r rest all e =
+-- which kind of record was read
+pub by-kind :
+    (xs : List ℕ) (r : Rec) (rest : List ℕ) (P : Type 0) → parse-record xs ≡ Some (r, rest) →
+    (getD xs 0 0 ≡ 1 → whole 3 xs (head (getD xs 1 0) (getD xs 2 0)) ≡ Some (r, rest) → P) →
+    (getD xs 0 0 ≡ 2 → whole 25 xs (job-at xs) ≡ Some (r, rest) → P) →
+    (getD xs 0 0 ≡ 3 → whole 17 xs (note (take 16 (drop 1 xs))) ≡ Some (r, rest) → P) →
+    (getD xs 0 0 ≡ 9 → whole 1 xs end ≡ Some (r, rest) → P) → P
+by-kind xs r rest P e of-head of-job of-note of-end =
     let out : Option (Rec × List ℕ) = Some (r, rest) in
     let k = getD xs 0 0 in
     elim (split (eqb (length xs) 0) None (of-kind k xs) out e) [
-      | inl w ↦ none-some (r, rest) (Stands xs r rest) (w .1)
-      | inr w ↦ elim (split (eqb k 1) (whole 3 xs (head (getD xs 1 0) (getD xs 2 0))) _ out (w .1)) [
-        | inl v ↦ read-so 3 xs (head (getD xs 1 0) (getD xs 2 0)) r rest (stands-head xs all (eqb-true k 1 (v .0))) (v .1)
-        | inr v ↦ elim (split (eqb k 2) (whole 25 xs (job-at xs)) _ out (v .1)) [
-          | inl u ↦ read-so 25 xs (job-at xs) r rest (stands-job xs all (eqb-true k 2 (u .0))) (u .1)
-          | inr u ↦ elim (split (eqb k 3) (whole 17 xs (note (take 16 (drop 1 xs)))) _ out (u .1)) [
-            | inl t ↦ read-so 17 xs (note (take 16 (drop 1 xs))) r rest (stands-note xs all (eqb-true k 3 (t .0))) (t .1)
-            | inr t ↦ elim (split (eqb k 9) (whole 1 xs end) None out (t .1)) [
-              | inl s ↦ read-so 1 xs end r rest (stands-end xs (eqb-true k 9 (s .0))) (s .1)
-              | inr s ↦ none-some (r, rest) (Stands xs r rest) (s .1)
+      inl w ↦ none-some (r, rest) P (w .1)
+    | inr w ↦ elim (split (eqb k 1) (whole 3 xs (head (getD xs 1 0) (getD xs 2 0))) _ out (w .1)) [
+        inl v ↦ of-head (eqb-true k 1 (v .0)) (v .1)
+      | inr v ↦ elim (split (eqb k 2) (whole 25 xs (job-at xs)) _ out (v .1)) [
+          inl u ↦ of-job (eqb-true k 2 (u .0)) (u .1)
+        | inr u ↦ elim (split (eqb k 3) (whole 17 xs (note (take 16 (drop 1 xs)))) _ out (u .1)) [
+            inl t ↦ of-note (eqb-true k 3 (t .0)) (t .1)
+          | inr t ↦ elim (split (eqb k 9) (whole 1 xs end) None out (t .1)) [
+              inl s ↦ of-end (eqb-true k 9 (s .0)) (s .1)
+            | inr s ↦ none-some (r, rest) P (s .1)
             ]
           ]
         ]
       ]
     ]
+
+pub reads-only : ReadsOnly
+reads-only xs r rest all e =
+    by-kind xs r rest (Stands xs r rest) e
+    (λ k w. read-so 3 xs (head (getD xs 1 0) (getD xs 2 0)) r rest (stands-head xs all k) w)
+    (λ k w. read-so 25 xs (job-at xs) r rest (stands-job xs all k) w)
+    (λ k w. read-so 17 xs (note (take 16 (drop 1 xs))) r rest (stands-note xs all k) w)
+    (λ k w. read-so 1 xs end r rest (stands-end xs k) w)
+
+whole-shorter : (n : ℕ) (xs : List ℕ) (found r : Rec) (rest : List ℕ) → 0 < n → whole n xs found ≡ Some (r, rest) → length rest < length xs
+whole-shorter n xs found r rest h e =
+    let w = whole-is n xs found r rest e in
+    omega (arith, length-drop n xs, ap length (w .after), w .there)
+
+-- a record has a byte
+pub shorter : (xs : List ℕ) (r : Rec) (rest : List ℕ) → parse-record xs ≡ Some (r, rest) → length rest < length xs
+shorter xs r rest e =
+    by-kind xs r rest (length rest < length xs) e
+    (λ k w. whole-shorter 3 xs (head (getD xs 1 0) (getD xs 2 0)) r rest (omega arith) w)
+    (λ k w. whole-shorter 25 xs (job-at xs) r rest (omega arith) w)
+    (λ k w. whole-shorter 17 xs (note (take 16 (drop 1 xs))) r rest (omega arith) w)
+    (λ k w. whole-shorter 1 xs end r rest (omega arith) w)

@@ -1,7 +1,7 @@
 -- The same by computing: what plan the bytes hold, if any.
 use mathlib.Core.Path.{_≡_}
 use mathlib.Core.Bool.{cond, _&&_}
-use mathlib.Core.List.{List, [], _∷_}
+use mathlib.Core.List.{List, [], _∷_, _++_}
 use Prim.Native.Nat.{ℕ, zero, suc, _+_}
 use lib.Dec.{eqb, leb, ltb}
 use lib.ListN.{length}
@@ -17,6 +17,10 @@ use Rattle.planfile.specs.File.{PlanFile}
 -- what is read on, from the number of the last job, the jobs and the notes so far, and the bytes that are left
 abbrev pub Onward : Type 0
 Onward = ℕ → ℕ → ℕ → List ℕ → Option (List Placement)
+
+-- after placements that were read before
+abbrev pub following : List Placement → Option (List Placement) → Option (List Placement)
+following before rest = mapped (λ ps. before ++ ps) rest
 
 abbrev pub after-job : Option Placement → Option (List Placement) → Option (List Placement)
 after-job None rest = None

@@ -55,3 +55,43 @@ fn place(m: u8, job: JobRecord) -> Option<Placement>
         status,
     })
 }
+
+// The next job's placement, after so many jobs of which the last has the number `last`.
+fn admit(m: u8, last: u32, jobs: usize, job: JobRecord) -> Option<Placement>
+    ensures { λ r. ⌜ r ≡ admitted m last jobs (job .draft) (job .pair) (job .status) ⌝ }
+{
+    if jobs < 96 && last < job.draft.number {
+        place(m, job)
+    } else {
+        None
+    }
+}
+
+// The records after the head. Whether they are those of a plan file; then their placements are added to `out`.
+fn read_body(reader: &mut Reader, m: u8, out: &mut Vec<Placement>) -> bool
+    requires { ⌜ (vec-items (now out) ≡ []) × (vec-len (now out) ≡ 0) × (96 ≤ vec-cap (now out)) ⌝ }
+    ensures { λ r. ⌜ body-of m 0 0 0 (ahead (now (reader .entry))) ≡ whenTrue r (vec-items (now (out .exit))) ⌝ }
+{
+    let mut last = 0;
+    let mut notes = 0u32;
+    while let Some(record) = reader.next() {
+        match record {
+            Record::Head { code: _, machines: _ } => return false,
+            Record::Job(job) => {
+                let Some(placement) = admit(m, last, out.len(), job) else {
+                    return false;
+                };
+                last = job.draft.number;
+                out.push_reserved(placement);
+            }
+            Record::Note(_) => {
+                if notes >= 64 {
+                    return false;
+                }
+                notes += 1;
+            }
+            Record::End => return reader.at_end(),
+        }
+    }
+    false
+}

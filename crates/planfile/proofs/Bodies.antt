@@ -1,0 +1,67 @@
+-- The records after the head are judged one by one, however many there may be.
+use mathlib.Core.Path.{_≡_, refl, sym, ap, _∙_}
+use mathlib.Core.Bool.{cond}
+use mathlib.Core.List.{List, [], _∷_, _++_, append-assoc}
+use Prim.Native.Nat.{ℕ, zero, suc, _+_, _≤_, _<_}
+use native.Mathlib.Omega.{arith}
+use lib.Dec.{ltb}
+use lib.ListN.{length}
+use Rattle.std.specs.Options.{mapped}
+use Rattle.std.specs.declared.option.Option.{Option}
+use Rattle.std.specs.declared.option.Option.the-variants.{Some, None}
+use Rattle.terms.specs.declared.draft.Draft.{Draft}
+use Rattle.rack.specs.declared.placement.Placement.{Placement}
+use Rattle.planfile.specs.Format.{Rec, head, job, note, end, parse-record}
+use Rattle.planfile.specs.Judging.{Onward, after-job, admitted, judge, judge-first, body-within, body-of, following}
+use Rattle.planfile.proofs.Records.{shorter}
+
+-- two ways on that agree at the rest judge alike
+judge-alike :
+    (m last jobs notes : ℕ) (f g : Onward) (r : Rec) (xs : List ℕ) → ((l j n : ℕ) → f l j n xs ≡ g l j n xs) →
+    judge m last jobs notes f r xs ≡ judge m last jobs notes g r xs
+judge-alike m last jobs notes f g (head code machines) xs same = refl
+judge-alike m last jobs notes f g (job d q s) xs same =
+    ap (λ (o : Option (List Placement)). after-job (admitted m last jobs d q s) o) (same (d .number) (jobs + 1) notes)
+judge-alike m last jobs notes f g (note text) xs same =
+    ap (λ (o : Option (List Placement)). cond (ltb notes 64) o None) (same last jobs (notes + 1))
+judge-alike m last jobs notes f g end xs same = refl
+
+first-alike :
+    (m last jobs notes : ℕ) (f g : Onward) (xs : List ℕ) (o : Option (Rec × List ℕ)) → parse-record xs ≡ o →
+    ((l j n : ℕ) (ys : List ℕ) → length ys < length xs → f l j n ys ≡ g l j n ys) →
+    judge-first m last jobs notes f o ≡ judge-first m last jobs notes g o
+first-alike m last jobs notes f g xs None e same = refl
+first-alike m last jobs notes f g xs (Some x) e same =
+    judge-alike m last jobs notes f g (x .0) (x .1) (λ l j n. same l j n (x .1) (shorter xs (x .0) (x .1) e))
+
+-- with no bytes there is no record
+empty : (n m last jobs notes : ℕ) → body-within n m last jobs notes [] ≡ None
+empty zero m last jobs notes = refl
+empty (suc n) m last jobs notes = refl
+
+-- as many records as bytes are enough
+enough :
+    (n k m : ℕ) (xs : List ℕ) → length xs ≤ n → length xs ≤ k → (last jobs notes : ℕ) →
+    body-within n m last jobs notes xs ≡ body-within k m last jobs notes xs
+enough n k m [] h i last jobs notes = empty n m last jobs notes ∙ sym (empty k m last jobs notes)
+enough zero k m (x ∷ xs) h i last jobs notes = absurd (let z : ⊥ = omega arith in z)
+enough (suc n) zero m (x ∷ xs) h i last jobs notes = absurd (let z : ⊥ = omega arith in z)
+enough (suc n) (suc k) m (x ∷ xs) h i last jobs notes =
+    first-alike m last jobs notes (body-within n m) (body-within k m) (x ∷ xs) (parse-record (x ∷ xs)) refl
+    (λ l j c ys s. enough n k m ys (omega arith) (omega arith) l j c)
+
+-- the first record, and then the rest
+pub body-step :
+    (m last jobs notes : ℕ) (xs : List ℕ) →
+    body-of m last jobs notes xs ≡ judge-first m last jobs notes (body-of m) (parse-record xs)
+unfolding body-of
+body-step m last jobs notes [] = refl
+body-step m last jobs notes (x ∷ xs) =
+    first-alike m last jobs notes (body-within (length xs) m) (λ l j c ys. body-within (length ys) m l j c ys) (x ∷ xs)
+    (parse-record (x ∷ xs)) refl
+    (λ l j c ys s. enough (length xs) (length ys) m ys (omega arith) (omega arith) l j c)
+
+-- what follows one placement more
+pub following-more : (before : List Placement) (p : Placement) (o : Option (List Placement)) → following before (after-job (Some p) o) ≡ following (before ++ p ∷ []) o
+following-more before p None = refl
+following-more before p (Some ps) = ap (λ (qs : List Placement). Some qs) (sym (append-assoc before (p ∷ []) ps))
