@@ -1,12 +1,12 @@
 -- The records after the head are judged one by one, however many there may be.
 use mathlib.Core.Path.{_≡_, refl, sym, ap, _∙_}
-use mathlib.Core.Bool.{cond}
-use mathlib.Core.List.{List, [], _∷_, _++_, append-assoc}
+use mathlib.Core.Bool.{Bool, true, false, cond}
+use mathlib.Core.List.{List, [], _∷_, _++_, append-assoc, append-nil}
 use Prim.Native.Nat.{ℕ, zero, suc, _+_, _≤_, _<_}
 use native.Mathlib.Omega.{arith}
 use lib.Dec.{ltb}
 use lib.ListN.{length}
-use Rattle.std.specs.Options.{mapped}
+use Rattle.std.specs.Options.{mapped, whenTrue}
 use Rattle.std.specs.declared.option.Option.{Option}
 use Rattle.std.specs.declared.option.Option.the-variants.{Some, None}
 use Rattle.terms.specs.declared.draft.Draft.{Draft}
@@ -65,3 +65,39 @@ body-step m last jobs notes (x ∷ xs) =
 pub following-more : (before : List Placement) (p : Placement) (o : Option (List Placement)) → following before (after-job (Some p) o) ≡ following (before ++ p ∷ []) o
 following-more before p None = refl
 following-more before p (Some ps) = ap (λ (qs : List Placement). Some qs) (sym (append-assoc before (p ∷ []) ps))
+
+-- one turn of reading on
+pub turn :
+    (all : Option (List Placement)) (before : List Placement) (m last jobs notes : ℕ) (xs : List ℕ) (o : Option (Rec × List ℕ)) →
+    all ≡ following before (body-of m last jobs notes xs) → parse-record xs ≡ o →
+    all ≡ following before (judge-first m last jobs notes (body-of m) o)
+turn all before m last jobs notes xs o so-far read =
+    so-far ∙ ap (λ (v : Option (List Placement)). following before v)
+    (body-step m last jobs notes xs ∙ ap (λ (v : Option (Rec × List ℕ)). judge-first m last jobs notes (body-of m) v) read)
+
+-- one turn, by the record that was read
+pub seen :
+    (all : Option (List Placement)) (before : List Placement) (m last jobs notes : ℕ) (xs rest : List ℕ) (found r : Rec) →
+    all ≡ following before (body-of m last jobs notes xs) → parse-record xs ≡ Some (found, rest) → found ≡ r →
+    all ≡ following before (judge m last jobs notes (body-of m) r rest)
+seen all before m last jobs notes xs rest found r so-far read is =
+    turn all before m last jobs notes xs (Some (r, rest)) so-far (read ∙ ap (λ (v : Rec). Some (v, rest)) is)
+
+-- a job that is admitted, and one that is not
+pub seen-job :
+    (before : List Placement) (m last jobs notes : ℕ) (rest : List ℕ) (d : Draft) (q s : ℕ) (p : Placement) →
+    admitted m last jobs d q s ≡ Some p →
+    following before (judge m last jobs notes (body-of m) (job d q s) rest) ≡ following (before ++ p ∷ []) (body-of m (d .number) (jobs + 1) notes rest)
+seen-job before m last jobs notes rest d q s p is =
+    ap (λ (v : Option Placement). following before (after-job v (body-of m (d .number) (jobs + 1) notes rest))) is
+    ∙ following-more before p (body-of m (d .number) (jobs + 1) notes rest)
+
+pub refused-job :
+    (before : List Placement) (m last jobs notes : ℕ) (rest : List ℕ) (d : Draft) (q s : ℕ) → admitted m last jobs d q s ≡ None →
+    following before (judge m last jobs notes (body-of m) (job d q s) rest) ≡ None
+refused-job before m last jobs notes rest d q s is =
+    ap (λ (v : Option Placement). following before (after-job v (body-of m (d .number) (jobs + 1) notes rest))) is
+
+pub at-last : (b : Bool) (before : List Placement) → following before (cond b (Some []) None) ≡ whenTrue b before
+at-last true before = ap (λ (qs : List Placement). Some qs) (append-nil before)
+at-last false before = refl

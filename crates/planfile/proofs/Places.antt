@@ -40,10 +40,10 @@ lawful-of d t o =
 machines-are : (q a b : ℕ) → pair-machines q ≡ Some (a, b) → (q < 240) × (primary-of q ≡ a) × (standby-of q ≡ b)
 machines-are q a b e =
     elim (split (ltb q 240) (Some (primary-of q, standby-of q)) None (Some (a, b)) e) [
-      inl w ↦
-        let same : _≡_ {A = ℕ × ℕ} (primary-of q, standby-of q) (a, b) = same-some (primary-of q, standby-of q) (a, b) (w .1) in
-        (ltb-true q 240 (w .0), ap (λ (x : ℕ × ℕ). x .0) same, ap (λ (x : ℕ × ℕ). x .1) same)
-    | inr w ↦ none-some (a, b) ((q < 240) × (primary-of q ≡ a) × (standby-of q ≡ b)) (w .1)
+      | inl w ↦
+          let same : _≡_ {A = ℕ × ℕ} (primary-of q, standby-of q) (a, b) = same-some (primary-of q, standby-of q) (a, b) (w .1) in
+          (ltb-true q 240 (w .0), ap (λ (x : ℕ × ℕ). x .0) same, ap (λ (x : ℕ × ℕ). x .1) same)
+      | inr w ↦ none-some (a, b) ((q < 240) × (primary-of q ≡ a) × (standby-of q ≡ b)) (w .1)
     ]
 
 status-back : (s : ℕ) (v : Status) → s ≡ status-byte v → status-of s ≡ v
@@ -88,7 +88,7 @@ module _ (m : ℕ) (d : Draft) (q s : ℕ) where
       let second = and-parts (ltb (standby-of q) m) _ (first .1) in
       let small : s ≤ 1 = leb-true s 1 (second .1) in
       let it : Placement =
-          record { terms = terms-of d (lawfully .0); primary = primary-of q; standby = standby-of q; status = status-of s } in
+      record { terms = terms-of d (lawfully .0); primary = primary-of q; standby = standby-of q; status = status-of s } in
       let stands : Places m d q s it = record {
         terms = record { number = refl; period = refl; deadline = refl; run = refl; standby = refl; lateness = refl };
         machines = rw (known .0);

@@ -154,16 +154,16 @@ by-kind xs r rest P e of-head of-job of-note of-end =
     let out : Option (Rec × List ℕ) = Some (r, rest) in
     let k = getD xs 0 0 in
     elim (split (eqb (length xs) 0) None (of-kind k xs) out e) [
-      inl w ↦ none-some (r, rest) P (w .1)
-    | inr w ↦ elim (split (eqb k 1) (whole 3 xs (head (getD xs 1 0) (getD xs 2 0))) _ out (w .1)) [
-        inl v ↦ of-head (eqb-true k 1 (v .0)) (v .1)
-      | inr v ↦ elim (split (eqb k 2) (whole 25 xs (job-at xs)) _ out (v .1)) [
-          inl u ↦ of-job (eqb-true k 2 (u .0)) (u .1)
-        | inr u ↦ elim (split (eqb k 3) (whole 17 xs (note (take 16 (drop 1 xs)))) _ out (u .1)) [
-            inl t ↦ of-note (eqb-true k 3 (t .0)) (t .1)
-          | inr t ↦ elim (split (eqb k 9) (whole 1 xs end) None out (t .1)) [
-              inl s ↦ of-end (eqb-true k 9 (s .0)) (s .1)
-            | inr s ↦ none-some (r, rest) P (s .1)
+      | inl w ↦ none-some (r, rest) P (w .1)
+      | inr w ↦ elim (split (eqb k 1) (whole 3 xs (head (getD xs 1 0) (getD xs 2 0))) _ out (w .1)) [
+        | inl v ↦ of-head (eqb-true k 1 (v .0)) (v .1)
+        | inr v ↦ elim (split (eqb k 2) (whole 25 xs (job-at xs)) _ out (v .1)) [
+          | inl u ↦ of-job (eqb-true k 2 (u .0)) (u .1)
+          | inr u ↦ elim (split (eqb k 3) (whole 17 xs (note (take 16 (drop 1 xs)))) _ out (u .1)) [
+            | inl t ↦ of-note (eqb-true k 3 (t .0)) (t .1)
+            | inr t ↦ elim (split (eqb k 9) (whole 1 xs end) None out (t .1)) [
+              | inl s ↦ of-end (eqb-true k 9 (s .0)) (s .1)
+              | inr s ↦ none-some (r, rest) P (s .1)
             ]
           ]
         ]

@@ -76,7 +76,10 @@ fn read_body(reader: &mut Reader, m: u8, out: &mut Vec<Placement>) -> bool
     let mut notes = 0u32;
     while let Some(record) = reader.next() {
         match record {
-            Record::Head { code: _, machines: _ } => return false,
+            Record::Head {
+                code: _,
+                machines: _,
+            } => return false,
             Record::Job(job) => {
                 let Some(placement) = admit(m, last, out.len(), job) else {
                     return false;

@@ -9,7 +9,7 @@ use Rattle.planfile.proofs.file.read_body.Given as given
 abbrev pub Inv-loop-record : given.InvT-loop-record
 Inv-loop-record l =
     (body-of (l .m) 0 0 0 (ahead (l .entry .reader))
-      ≡ following (vec-items (l .out)) (body-of (l .m) (l .last) (vec-len (l .out)) (l .notes) (ahead (l .reader))))
+    ≡ following (vec-items (l .out)) (body-of (l .m) (l .last) (vec-len (l .out)) (l .notes) (ahead (l .reader))))
     × (96 ≤ vec-cap (l .out)) × (l .notes ≤ 64)
 
 abbrev pub μ-loop-record : given.MeasureT-loop-record

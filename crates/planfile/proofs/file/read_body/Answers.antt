@@ -1,0 +1,105 @@
+use mathlib.Core.Path.{_≡_, sym, ap, subst, _∙_}
+use mathlib.Core.Bool.{Bool, cond}
+use mathlib.Core.List.{List, [], _∷_, _++_}
+use Prim.Native.Nat.{ℕ, _+_, _<_}
+use native.Mathlib.Omega.{arith}
+use lib.Dec.{eqb, ltb}
+use lib.ListN.{length}
+use Rattle.std.proofs.shelf.Tests.{le-ltb, lt-ltb}
+use Rattle.std.specs.Of.Vec.{vec-items, vec-len}
+use Rattle.std.specs.Options.{whenTrue}
+use Rattle.std.specs.declared.option.Option.{Option}
+use Rattle.std.specs.declared.option.Option.the-variants.{Some, None}
+use Rattle.rack.specs.declared.placement.Placement.{Placement}
+use Rattle.planfile.specs.declared.record.Record.{Record}
+use Rattle.planfile.specs.Format.{Rec, head, job, note, end, parse-record}
+use Rattle.planfile.specs.Judging.{admitted, after-job, body-of, following, judge-first}
+use Rattle.planfile.specs.Shown.{ahead, rec-of}
+use Rattle.planfile.proofs.Bodies.{turn, seen, seen-job, refused-job, at-last}
+use Rattle.planfile.proofs.file.read_body.Needs as need
+
+pub returns-in-Head : need.returns-in-Head
+returns-in-Head c =
+    let items = vec-items (c .loop-record .out) in
+    let jobs = vec-len (c .loop-record .out) in
+    let last = c .loop-record .last in
+    let notes = c .loop-record .notes in
+    let rest = ahead (c .next .last .self) in
+    seen _ items (c .args .m) last jobs notes (ahead (c .loop-record .reader)) rest (rec-of (c .in-Some .record)) (head (c .in-Head .code) (c .in-Head .machines))
+    (c .loop-record .inv .0) (c .in-Some .ensures tt .reads) (ap rec-of (c .in-Head .is))
+
+pub returns-in-rest-admit : need.returns-in-rest-admit
+returns-in-rest-admit c =
+    let items = vec-items (c .loop-record .out) in
+    let jobs = vec-len (c .loop-record .out) in
+    let last = c .loop-record .last in
+    let notes = c .loop-record .notes in
+    let rest = ahead (c .next .last .self) in
+    let it = c .in-Job .job in
+    let off : admitted (c .args .m) last jobs (it .draft) (it .pair) (it .status) ≡ None =
+    ap (λ (n : ℕ). admitted (c .args .m) last n (it .draft) (it .pair) (it .status)) (sym (c .len .ensures)) ∙ sym (c .in-rest-admit .ensures tt) in
+    seen _ items (c .args .m) last jobs notes (ahead (c .loop-record .reader)) rest (rec-of (c .in-Some .record)) (job (it .draft) (it .pair) (it .status))
+    (c .loop-record .inv .0) (c .in-Some .ensures tt .reads) (ap rec-of (c .in-Job .is))
+    ∙ refused-job items (c .args .m) last jobs notes rest (it .draft) (it .pair) (it .status) off
+
+pub loop-record-again-in-Job : need.loop-record-again-in-Job
+loop-record-again-in-Job c =
+    let items = vec-items (c .loop-record .out) in
+    let jobs = vec-len (c .loop-record .out) in
+    let last = c .loop-record .last in
+    let notes = c .loop-record .notes in
+    let rest = ahead (c .next .last .self) in
+    let it = c .in-Job .job in
+    let p = c .in-Some-admit .placement in
+    let in-it : admitted (c .args .m) last jobs (it .draft) (it .pair) (it .status) ≡ Some p =
+    ap (λ (n : ℕ). admitted (c .args .m) last n (it .draft) (it .pair) (it .status)) (sym (c .len .ensures)) ∙ sym (c .in-Some-admit .ensures tt) in
+    let pushed = c .push-reserved .ensures in (
+      seen _ items (c .args .m) last jobs notes (ahead (c .loop-record .reader)) rest (rec-of (c .in-Some .record)) (job (it .draft) (it .pair) (it .status))
+          (c .loop-record .inv .0) (c .in-Some .ensures tt .reads) (ap rec-of (c .in-Job .is))
+          ∙ seen-job items (c .args .m) last jobs notes rest (it .draft) (it .pair) (it .status) p in-it
+          ∙ ap (λ (v : List Placement). following v (body-of (c .args .m) (it .draft .number) (jobs + 1) notes rest)) (sym (pushed .items))
+          ∙ ap (λ (n : ℕ). following (vec-items (c .push-reserved .last .self)) (body-of (c .args .m) (it .draft .number) n notes rest)) (sym (pushed .len)),
+      omega (arith, pushed .capacity, c .loop-record .inv .1),
+      c .loop-record .inv .2,
+    )
+
+pub returns-then-notes-ge64 : need.returns-then-notes-ge64
+returns-then-notes-ge64 c =
+    let items = vec-items (c .loop-record .out) in
+    let jobs = vec-len (c .loop-record .out) in
+    let last = c .loop-record .last in
+    let notes = c .loop-record .notes in
+    let rest = ahead (c .next .last .self) in
+    seen _ items (c .args .m) last jobs notes (ahead (c .loop-record .reader)) rest (rec-of (c .in-Some .record)) (note (c .in-Note .field-0 .now))
+    (c .loop-record .inv .0) (c .in-Some .ensures tt .reads) (ap rec-of (c .in-Note .is))
+    ∙ ap (λ (b : Bool). following items (cond b (body-of (c .args .m) last jobs (notes + 1) rest) None)) (le-ltb notes 64 (c .if-notes-ge64 .taken))
+
+pub loop-record-again : need.loop-record-again
+loop-record-again c =
+    let items = vec-items (c .loop-record .out) in
+    let jobs = vec-len (c .loop-record .out) in
+    let last = c .loop-record .last in
+    let notes = c .loop-record .notes in
+    let rest = ahead (c .next .last .self) in (
+      seen _ items (c .args .m) last jobs notes (ahead (c .loop-record .reader)) rest (rec-of (c .in-Some .record)) (note (c .in-Note .field-0 .now))
+          (c .loop-record .inv .0) (c .in-Some .ensures tt .reads) (ap rec-of (c .in-Note .is))
+          ∙ ap (λ (b : Bool). following items (cond b (body-of (c .args .m) last jobs (notes + 1) rest) None)) (lt-ltb notes 64 (c .if-notes-ge64 .left)),
+      c .loop-record .inv .1,
+      omega arith,
+    )
+
+pub returns-in-End : need.returns-in-End
+returns-in-End c =
+    let items = vec-items (c .loop-record .out) in
+    let jobs = vec-len (c .loop-record .out) in
+    let last = c .loop-record .last in
+    let notes = c .loop-record .notes in
+    let rest = ahead (c .next .last .self) in
+    seen _ items (c .args .m) last jobs notes (ahead (c .loop-record .reader)) rest (rec-of (c .in-Some .record)) end
+    (c .loop-record .inv .0) (c .in-Some .ensures tt .reads) (ap rec-of (c .in-End .is))
+    ∙ at-last (eqb (length rest) 0) items ∙ ap (λ (b : Bool). whenTrue b items) (sym (c .at-end .ensures))
+
+pub returns : need.returns
+returns c =
+    turn _ (vec-items (c .loop-record .out)) (c .args .m) (c .loop-record .last) (vec-len (c .loop-record .out)) (c .loop-record .notes)
+    (ahead (c .loop-record .reader)) None (c .loop-record .inv .0) (c .in-rest .ensures tt .reads)
