@@ -3,3 +3,4 @@ mod Numbers
 mod Records
 mod Places
 mod Bodies
+mod Agrees

@@ -37,7 +37,7 @@ lawful-of d t o =
     (and-from (leb (d .deadline) (d .period)) _ (le-leb (d .deadline) (d .period) (omega arith)) (le-leb (d .period) 1000000 (omega arith))))))))
 
 -- the machines of a pair
-machines-are : (q a b : ℕ) → pair-machines q ≡ Some (a, b) → (q < 240) × (primary-of q ≡ a) × (standby-of q ≡ b)
+pub machines-are : (q a b : ℕ) → pair-machines q ≡ Some (a, b) → (q < 240) × (primary-of q ≡ a) × (standby-of q ≡ b)
 machines-are q a b e =
     elim (split (ltb q 240) (Some (primary-of q, standby-of q)) None (Some (a, b)) e) [
       | inl w ↦
@@ -50,7 +50,7 @@ status-back : (s : ℕ) (v : Status) → s ≡ status-byte v → status-of s ≡
 status-back s Passive e = rw e
 status-back s Active e = rw e
 
-small-status : (v : Status) → status-byte v ≤ 1
+pub small-status : (v : Status) → status-byte v ≤ 1
 small-status Passive = omega arith
 small-status Active = omega arith
 

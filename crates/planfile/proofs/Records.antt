@@ -46,7 +46,7 @@ reads-back (note text) rest fits =
     ∙ rw (took, left)
 reads-back end rest fits = begun (9 ∷ rest) (omega arith) ∙ whole-there 1 (9 ∷ rest) end (omega arith)
 
-byte-at : (xs : List ℕ) (k : ℕ) → Bytes xs → getD xs k 0 < 256
+pub byte-at : (xs : List ℕ) (k : ℕ) → Bytes xs → getD xs k 0 < 256
 byte-at [] k all = omega arith
 byte-at (x ∷ xs) zero all = all .0
 byte-at (x ∷ xs) (suc k) all = byte-at xs k (all .1)
