@@ -8,7 +8,6 @@ use native.Mathlib.Omega.{arith}
 use lib.Dec.{eqb, leb, ltb}
 use lib.ListN.{length, getD}
 use Rattle.std.proofs.shelf.Tests.{and-parts, and-from, ltb-true, leb-true, eqb-true, lt-ltb, le-leb, eq-eqb}
-use Rattle.std.specs.Options.{mapped}
 use Rattle.std.specs.declared.option.Option.{Option}
 use Rattle.std.specs.declared.option.Option.the-variants.{Some, None}
 use Rattle.terms.specs.declared.draft.Draft.{Draft}
@@ -22,7 +21,7 @@ use Rattle.pairs.specs.Pairs.{pair-machines}
 use Rattle.planfile.specs.Format.{Rec, head, job, note, end, encode, Fits, Job-fits, Bytes, parse-record}
 use Rattle.planfile.specs.Jobs.{Places, placement-of, status-byte}
 use Rattle.planfile.specs.File.{encode-all, Between, notes-in, Rising-from, PlanFile}
-use Rattle.planfile.specs.Judging.{Onward, after-job, admitted, judge, judge-first, body-within, body-of, under-head, by-head, plan-of, Agree}
+use Rattle.planfile.specs.Judging.{Onward, after-job, admitted, judge, judge-first, body-within, body-of, on-machines, under-head, by-head, plan-of, Agree}
 use Rattle.planfile.proofs.Ways.{split, none-some, same-some}
 use Rattle.planfile.proofs.Records.{reads-back, reads-only, byte-at}
 use Rattle.planfile.proofs.Places.{placed, placed-so, machines-are, small-status}
@@ -137,3 +136,143 @@ module _ (m : ℕ) where
   within-so zero rest last jobs notes ps all j n so = none-some ps (Body m last jobs notes rest ps) so
   within-so (suc k) rest last jobs notes ps all j n so =
       first-so last jobs notes (body-within k m) rest ps (parse-record rest) (within-so k) all j n refl so
+
+-- the numbers of a placed job fit their bytes
+job-fits : (m : ℕ) (d : Draft) (q s : ℕ) (p : Placement) → m ≤ 16 → Places m d q s p → Job-fits d q s
+job-fits m d q s p h stands =
+    let o : Of d (p .terms) = stands .terms in
+    let t = p .terms in
+    let q-fits = machines-are q (p .primary) (p .standby) (stands .machines) .0 in
+    let s-fits = small-status (p .status) in
+    let e = stands .status in
+    record {
+      number = omega arith;
+      period = omega arith;
+      deadline = omega arith;
+      run = omega arith;
+      standby = omega arith;
+      lateness = omega arith;
+      pair = omega arith;
+      status = omega arith;
+    }
+
+module _ (m : ℕ) (few : m ≤ 16) where
+  -- a record that was written is judged as itself
+  met :
+      (last jobs notes : ℕ) (r : Rec) (items : List Rec) → Fits r →
+      body-of m last jobs notes (encode-all (r ∷ items) ++ encode end)
+      ≡ judge m last jobs notes (body-of m) r (encode-all items ++ encode end)
+  met last jobs notes r items fits =
+      let rest = encode-all items ++ encode end in
+      body-step m last jobs notes (encode-all (r ∷ items) ++ encode end)
+      ∙ ap (λ (v : List ℕ). judge-first m last jobs notes (body-of m) (parse-record v)) (append-assoc (encode r) (encode-all items) (encode end))
+      ∙ ap (λ (v : Option (Rec × List ℕ)). judge-first m last jobs notes (body-of m) v) (reads-back r rest fits)
+
+  body-met :
+      (last jobs notes : ℕ) (items : List Rec) (ps : List Placement) → Between m items ps → Rising-from last ps →
+      jobs + length ps ≤ 96 → notes + notes-in items ≤ 64 → body-of m last jobs notes (encode-all items ++ encode end) ≡ Some ps
+  body-met last jobs notes [] [] between rising j n =
+      body-step m last jobs notes (encode end)
+      ∙ ap (λ (v : Option (Rec × List ℕ)). judge-first m last jobs notes (body-of m) v) (reads-back end [] tt)
+  body-met last jobs notes [] (p ∷ ps) between rising j n = absurd between
+  body-met last jobs notes (head code k ∷ items) ps between rising j n = absurd between
+  body-met last jobs notes (end ∷ items) ps between rising j n = absurd between
+  body-met last jobs notes (note text ∷ items) ps between rising j n =
+      let rest = encode-all items ++ encode end in
+      let room : notes < 64 = omega arith in
+      met last jobs notes (note text) items (between .0)
+      ∙ ap (λ (b : Bool). cond b (body-of m last jobs (notes + 1) rest) None) (lt-ltb notes 64 room)
+      ∙ body-met last jobs (notes + 1) items ps (between .1) rising j (omega arith)
+  body-met last jobs notes (job d q s ∷ items) [] between rising j n = absurd between
+  body-met last jobs notes (job d q s ∷ items) (p ∷ ps) between rising j n =
+      let rest = encode-all items ++ encode end in
+      let same : number p ≡ d .number = between .0 .terms .number in
+      let room : jobs < 96 = omega arith in
+      let above : last < d .number = omega (arith, rising .0) in
+      let is : admitted m last jobs d q s ≡ Some p =
+          ap (λ (b : Bool). cond b (placement-of m d q s) None)
+          (and-from (ltb jobs 96) (ltb last (d .number)) (lt-ltb jobs 96 room) (lt-ltb last (d .number) above))
+          ∙ placed m d q s p (between .0) in
+      let onward : body-of m (d .number) (jobs + 1) notes rest ≡ Some ps =
+          body-met (d .number) (jobs + 1) notes items ps (between .1) (subst (λ (v : ℕ). Rising-from v ps) same (rising .1)) (omega arith) n in
+      met last jobs notes (job d q s) items (job-fits m d q s p few (between .0))
+      ∙ ap (λ (v : Option Placement). after-job v (body-of m (d .number) (jobs + 1) notes rest)) is
+      ∙ ap (λ (v : Option (List Placement)). after-job (Some p) v) onward
+
+computed : (code : ℕ) (xs : List ℕ) (m : ℕ) (ps : List Placement) → Bytes xs → PlanFile code xs m ps → plan-of code xs ≡ Some (m, ps)
+computed code xs m ps all file =
+    let rest = encode-all (file .items) ++ encode end in
+    let code-fits : code < 256 = byte-at (encode (head code m) ++ rest) 1 (subst Bytes (file .laid-out) all) in
+    let two = file .two-machines in
+    let sixteen = file .sixteen-machines in
+    let tests : (eqb code code && (leb 2 m && leb m 16)) ≡ true =
+        and-from (eqb code code) (leb 2 m && leb m 16) (eq-eqb code code refl)
+        (and-from (leb 2 m) (leb m 16) (le-leb 2 m two) (le-leb m 16 sixteen)) in
+    let body : body-of m 0 0 0 rest ≡ Some ps =
+        body-met m sixteen 0 0 0 (file .items) ps (file .jobs-and-notes) (file .rising) (omega (arith, file .few-jobs)) (omega (arith, file .few-notes)) in
+    ap (λ (v : List ℕ). plan-of code v) (file .laid-out)
+    ∙ ap (λ (v : Option (Rec × List ℕ)). by-head code v) (reads-back (head code m) rest (code-fits, omega arith))
+    ∙ ap (λ (b : Bool). cond b (on-machines m (body-of m 0 0 0 rest)) None) tests
+    ∙ ap (λ (v : Option (List Placement)). on-machines m v) body
+
+-- a body under a head
+under :
+    (code : ℕ) (xs : List ℕ) (m : ℕ) (ps : List Placement) (c k : ℕ) (rest : List ℕ) (qs : List Placement) →
+    xs ≡ encode (head c k) ++ rest → c ≡ code → 2 ≤ k → k ≤ 16 → Body k 0 0 0 rest qs →
+    _≡_ {A = Option (ℕ × List Placement)} (Some (k, qs)) (Some (m, ps)) →
+    PlanFile code xs m ps
+under code xs m ps c k rest qs laid-so same two sixteen b so =
+    let both : _≡_ {A = ℕ × List Placement} (k, qs) (m, ps) = same-some (k, qs) (m, ps) so in
+    let own : PlanFile c xs k qs = record {
+      items = b .items;
+      laid-out = laid-so ∙ ap (λ (v : List ℕ). encode (head c k) ++ v) (b .laid-out);
+      two-machines = two;
+      sixteen-machines = sixteen;
+      jobs-and-notes = b .between;
+      rising = b .rising;
+      few-jobs = omega (arith, b .few-jobs);
+      few-notes = omega (arith, b .few-notes);
+    } in
+    subst (λ (v : ℕ × List Placement). PlanFile code xs (v .0) (v .1)) both (subst (λ (v : ℕ). PlanFile v xs k qs) same own)
+
+body-so : (m : ℕ) (xs : List ℕ) (ps : List Placement) → Bytes xs → body-of m 0 0 0 xs ≡ Some ps → Body m 0 0 0 xs ps
+unfolding body-of
+body-so m xs ps all so = within-so m (length xs) xs 0 0 0 ps all (omega arith) (omega arith) so
+
+head-so :
+    (code : ℕ) (xs : List ℕ) (m : ℕ) (ps : List Placement) (c k : ℕ) (rest : List ℕ) → xs ≡ encode (head c k) ++ rest → Bytes rest →
+    (o : Option (List Placement)) → body-of k 0 0 0 rest ≡ o →
+    cond (eqb c code && (leb 2 k && leb k 16)) (on-machines k o) None ≡ Some (m, ps) → PlanFile code xs m ps
+head-so code xs m ps c k rest laid-so all None is so =
+    elim (split (eqb c code && (leb 2 k && leb k 16)) None None (Some (m, ps)) so) [
+      inl w ↦ none-some (m, ps) (PlanFile code xs m ps) (w .1)
+    | inr w ↦ none-some (m, ps) (PlanFile code xs m ps) (w .1)
+    ]
+head-so code xs m ps c k rest laid-so all (Some qs) is so =
+    elim (split (eqb c code && (leb 2 k && leb k 16)) (Some (k, qs)) None (Some (m, ps)) so) [
+      inl w ↦
+        let a = and-parts (eqb c code) (leb 2 k && leb k 16) (w .0) in
+        let b = and-parts (leb 2 k) (leb k 16) (a .1) in
+        under code xs m ps c k rest qs laid-so (eqb-true c code (a .0)) (leb-true 2 k (b .0)) (leb-true k 16 (b .1))
+        (body-so k rest qs all is) (w .1)
+    | inr w ↦ none-some (m, ps) (PlanFile code xs m ps) (w .1)
+    ]
+
+first-is :
+    (code : ℕ) (xs : List ℕ) (m : ℕ) (ps : List Placement) (r : Rec) (rest : List ℕ) → xs ≡ encode r ++ rest → Bytes rest →
+    under-head code r rest ≡ Some (m, ps) → PlanFile code xs m ps
+first-is code xs m ps (head c k) rest laid-so all so = head-so code xs m ps c k rest laid-so all (body-of k 0 0 0 rest) refl so
+first-is code xs m ps (job d q s) rest laid-so all so = none-some (m, ps) (PlanFile code xs m ps) so
+first-is code xs m ps (note text) rest laid-so all so = none-some (m, ps) (PlanFile code xs m ps) so
+first-is code xs m ps end rest laid-so all so = none-some (m, ps) (PlanFile code xs m ps) so
+
+held :
+    (code : ℕ) (xs : List ℕ) (m : ℕ) (ps : List Placement) → Bytes xs → (o : Option (Rec × List ℕ)) → parse-record xs ≡ o →
+    by-head code o ≡ Some (m, ps) → PlanFile code xs m ps
+held code xs m ps all None e so = none-some (m, ps) (PlanFile code xs m ps) so
+held code xs m ps all (Some x) e so =
+    let read = reads-only xs (x .0) (x .1) all e in
+    first-is code xs m ps (x .0) (x .1) (read .0) (bytes-after (encode (x .0)) (x .1) (subst Bytes (read .0) all)) so
+
+pub agree : Agree
+agree code xs m ps all = (computed code xs m ps all, held code xs m ps all (parse-record xs) refl)

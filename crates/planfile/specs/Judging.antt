@@ -51,9 +51,12 @@ body-within (suc n) m last jobs notes xs = judge-first m last jobs notes (body-w
 unfoldable pub body-of : ℕ → Onward
 body-of m last jobs notes xs = body-within (length xs) m last jobs notes xs
 
+abbrev pub on-machines : ℕ → Option (List Placement) → Option (ℕ × List Placement)
+on-machines m rest = mapped (λ ps. (m, ps)) rest
+
 abbrev pub under-head : ℕ → Rec → List ℕ → Option (ℕ × List Placement)
 under-head code (head c m) xs =
-    cond (eqb c code && (leb 2 m && leb m 16)) (mapped (λ ps. (m, ps)) (body-of m 0 0 0 xs)) None
+    cond (eqb c code && (leb 2 m && leb m 16)) (on-machines m (body-of m 0 0 0 xs)) None
 under-head code (job d q s) xs = None
 under-head code (note text) xs = None
 under-head code end xs = None

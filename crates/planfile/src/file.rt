@@ -4,11 +4,12 @@ ghost use mathlib.Core.Path.{_≡_};
 ghost use Prim.Native.Nat.{_≤_};
 ghost use lib.Dec.{eqb, leb, ltb};
 ghost use Rattle.std.specs.Of.Vec.{vec-cap, vec-items, vec-len};
+ghost use Rattle.std.specs.declared.option.Option.the-variants.{None};
 ghost use Rattle.std.specs.Options.{Cases, isSome, whenTrue};
 ghost use Rattle.std.specs.Results.{isOk};
 ghost use Rattle.std.specs.Vec.{made};
 ghost use Rattle.planfile.specs.Jobs.{Places, placeable, placement-of, status-byte};
-ghost use Rattle.planfile.specs.Judging.{admitted, body-of, by-head, plan-of};
+ghost use Rattle.planfile.specs.Judging.{admitted, body-of, on-machines, plan-of};
 ghost use Rattle.planfile.specs.Shown.{ahead};
 use crate::reader::Reader;
 use crate::record::JobRecord;
@@ -97,4 +98,18 @@ fn read_body(reader: &mut Reader, m: u8, out: &mut Vec<Placement>) -> bool
         }
     }
     false
+}
+
+// The head, and past it: its machine count, if it stands first and is one of a plan file under this code.
+fn read_head(reader: &mut Reader, code: u8) -> Option<u8>
+    ensures { λ r. ⌜ Cases r (plan-of code (ahead (now (reader .entry))) ≡ None) (λ m. plan-of code (ahead (now (reader .entry))) ≡ on-machines m (body-of m 0 0 0 (ahead (now (reader .exit))))) ⌝ }
+{
+    let Some(Record::Head { code: found, machines }) = reader.next() else {
+        return None;
+    };
+    if found == code && machines >= 2 && machines <= 16 {
+        Some(machines)
+    } else {
+        None
+    }
 }
