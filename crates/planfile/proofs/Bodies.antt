@@ -1,5 +1,5 @@
 -- The records after the head are judged one by one, however many there may be.
-use mathlib.Core.Path.{_≡_, refl, sym, ap, _∙_}
+use mathlib.Core.Path.{_≡_, refl, sym, ap, subst, _∙_}
 use mathlib.Core.Bool.{Bool, true, false, cond}
 use mathlib.Core.List.{List, [], _∷_, _++_, append-assoc, append-nil}
 use Prim.Native.Nat.{ℕ, zero, suc, _+_, _≤_, _<_}
@@ -97,6 +97,11 @@ pub refused-job :
     following before (judge m last jobs notes (body-of m) (job d q s) rest) ≡ None
 refused-job before m last jobs notes rest d q s is =
     ap (λ (v : Option Placement). following before (after-job v (body-of m (d .number) (jobs + 1) notes rest))) is
+
+-- the jobs so far, by their count
+pub admitted-at :
+    (m last n jobs : ℕ) (d : Draft) (q s : ℕ) (a : Option Placement) → n ≡ jobs → a ≡ admitted m last n d q s → admitted m last jobs d q s ≡ a
+admitted-at m last n jobs d q s a count is = sym (subst (λ (v : ℕ). a ≡ admitted m last v d q s) count is)
 
 pub at-last : (b : Bool) (before : List Placement) → following before (cond b (Some []) None) ≡ whenTrue b before
 at-last true before = ap (λ (qs : List Placement). Some qs) (append-nil before)

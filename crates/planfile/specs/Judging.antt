@@ -69,6 +69,11 @@ by-head code (Some x) = under-head code (x .0) (x .1)
 abbrev pub plan-of : ℕ → List ℕ → Option (ℕ × List Placement)
 plan-of code xs = by-head code (parse-record xs)
 
+-- a machine count, if there is one, and its placements
+abbrev pub with-placements : Option ℕ → List Placement → Option (ℕ × List Placement)
+with-placements None ps = None
+with-placements (Some m) ps = Some (m, ps)
+
 -- of bytes, it computes exactly what they hold
 abbrev pub Agree : Type 0
 Agree =

@@ -6,10 +6,10 @@ ghost use lib.Dec.{eqb, leb, ltb};
 ghost use Rattle.std.specs.Of.Vec.{vec-cap, vec-items, vec-len};
 ghost use Rattle.std.specs.declared.option.Option.the-variants.{None};
 ghost use Rattle.std.specs.Options.{Cases, isSome, whenTrue};
-ghost use Rattle.std.specs.Results.{isOk};
+ghost use Rattle.std.specs.Results.{Cases as ByOk, isOk};
 ghost use Rattle.std.specs.Vec.{made};
 ghost use Rattle.planfile.specs.Jobs.{Places, placeable, placement-of, status-byte};
-ghost use Rattle.planfile.specs.Judging.{admitted, body-of, on-machines, plan-of};
+ghost use Rattle.planfile.specs.Judging.{Agree, admitted, body-of, on-machines, plan-of, with-placements};
 ghost use Rattle.planfile.specs.Shown.{ahead};
 use crate::reader::Reader;
 use crate::record::JobRecord;
@@ -71,7 +71,8 @@ fn admit(m: u8, last: u32, jobs: usize, job: JobRecord) -> Option<Placement>
 // The records after the head. Whether they are those of a plan file; then their placements are added to `out`.
 fn read_body(reader: &mut Reader, m: u8, out: &mut Vec<Placement>) -> bool
     requires { ⌜ (vec-items (now out) ≡ []) × (vec-len (now out) ≡ 0) × (96 ≤ vec-cap (now out)) ⌝ }
-    ensures { λ r. ⌜ body-of m 0 0 0 (ahead (now (reader .entry))) ≡ whenTrue r (vec-items (now (out .exit))) ⌝ }
+    ensures holds { λ r. ⌜ body-of m 0 0 0 (ahead (now (reader .entry))) ≡ whenTrue r (vec-items (now (out .exit))) ⌝ }
+    ensures roomy { λ _. ⌜ 96 ≤ vec-cap (now (out .exit)) ⌝ }
 {
     let mut last = 0;
     let mut notes = 0u32;
@@ -111,5 +112,35 @@ fn read_head(reader: &mut Reader, code: u8) -> Option<u8>
         Some(machines)
     } else {
         None
+    }
+}
+
+// A reader at the first byte of a whole file.
+fn open<'a>(bytes: &'a [u8]) -> Reader<'a>
+    ensures start { λ r. ⌜ ahead r ≡ now (bytes .entry) ⌝ }
+    ensures agrees { λ _. ⌜ Agree ⌝ }
+{
+    Reader::new(bytes)
+}
+
+// The machine count of a plan file under this code, with its placements in `out`; nothing, where the bytes are no
+// plan file. It needs memory only if `out` has none for 96 placements.
+pub fn read_plan(code: u8, bytes: &[u8], out: &mut Vec<Placement>) -> Result<Option<u8>, AllocError>
+    ensures plan { λ r. ⌜ made r (λ m. plan-of code (now (bytes .entry)) ≡ with-placements m (vec-items (now (out .exit)))) ⌝ }
+    ensures empty { λ r. ⌜ ByOk r (λ m. Cases m (vec-items (now (out .exit)) ≡ []) (λ _. Unit {0})) (λ _. vec-items (now (out .exit)) ≡ []) ⌝ }
+    ensures roomy { λ r. ⌜ (96 ≤ vec-cap (now (out .entry)) → (isOk r ≡ true) × (96 ≤ vec-cap (now (out .exit)))) ⌝ }
+    ensures agrees { λ _. ⌜ Agree ⌝ }
+{
+    let mut reader = open(bytes);
+    out.clear();
+    out.reserve(96)?;
+    let Some(machines) = read_head(&mut reader, code) else {
+        return Ok(None);
+    };
+    if read_body(&mut reader, machines, out) {
+        Ok(Some(machines))
+    } else {
+        out.clear();
+        Ok(None)
     }
 }

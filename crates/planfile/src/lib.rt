@@ -5,6 +5,7 @@ mod reader;
 mod reads;
 mod record;
 
+pub use file::read_plan;
 pub use reader::Reader;
 pub use record::JobRecord;
 pub use record::Record;

@@ -1,4 +1,4 @@
-use mathlib.Core.Path.{_≡_, sym, ap, subst, _∙_}
+use mathlib.Core.Path.{_≡_, sym, ap, _∙_}
 use mathlib.Core.Bool.{Bool, cond}
 use mathlib.Core.List.{List, [], _∷_, _++_}
 use Prim.Native.Nat.{ℕ, _+_, _<_}
@@ -15,7 +15,7 @@ use Rattle.planfile.specs.declared.record.Record.{Record}
 use Rattle.planfile.specs.Format.{Rec, head, job, note, end, parse-record}
 use Rattle.planfile.specs.Judging.{admitted, after-job, body-of, following, judge-first}
 use Rattle.planfile.specs.Shown.{ahead, rec-of}
-use Rattle.planfile.proofs.Bodies.{turn, seen, seen-job, refused-job, at-last}
+use Rattle.planfile.proofs.Bodies.{turn, seen, seen-job, refused-job, admitted-at, at-last}
 use Rattle.planfile.proofs.file.read_body.Needs as need
 
 pub returns-in-Head : need.returns-in-Head
@@ -25,8 +25,12 @@ returns-in-Head c =
     let last = c .loop-record .last in
     let notes = c .loop-record .notes in
     let rest = ahead (c .next .last .self) in
-    seen _ items (c .args .m) last jobs notes (ahead (c .loop-record .reader)) rest (rec-of (c .in-Some .record)) (head (c .in-Head .code) (c .in-Head .machines))
-    (c .loop-record .inv .0) (c .in-Some .ensures tt .reads) (ap rec-of (c .in-Head .is))
+    record {
+      holds =
+        seen _ items (c .args .m) last jobs notes (ahead (c .loop-record .reader)) rest (rec-of (c .in-Some .record)) (head (c .in-Head .code) (c .in-Head .machines))
+        (c .loop-record .inv .0) (c .in-Some .ensures tt .reads) (ap rec-of (c .in-Head .is));
+      roomy = c .loop-record .inv .1;
+    }
 
 pub returns-in-rest-admit : need.returns-in-rest-admit
 returns-in-rest-admit c =
@@ -37,10 +41,14 @@ returns-in-rest-admit c =
     let rest = ahead (c .next .last .self) in
     let it = c .in-Job .job in
     let off : admitted (c .args .m) last jobs (it .draft) (it .pair) (it .status) ≡ None =
-    ap (λ (n : ℕ). admitted (c .args .m) last n (it .draft) (it .pair) (it .status)) (sym (c .len .ensures)) ∙ sym (c .in-rest-admit .ensures tt) in
-    seen _ items (c .args .m) last jobs notes (ahead (c .loop-record .reader)) rest (rec-of (c .in-Some .record)) (job (it .draft) (it .pair) (it .status))
-    (c .loop-record .inv .0) (c .in-Some .ensures tt .reads) (ap rec-of (c .in-Job .is))
-    ∙ refused-job items (c .args .m) last jobs notes rest (it .draft) (it .pair) (it .status) off
+    admitted-at (c .args .m) last (c .len .result) jobs (it .draft) (it .pair) (it .status) None (c .len .ensures) (c .in-rest-admit .ensures tt) in
+    record {
+      holds =
+        seen _ items (c .args .m) last jobs notes (ahead (c .loop-record .reader)) rest (rec-of (c .in-Some .record)) (job (it .draft) (it .pair) (it .status))
+        (c .loop-record .inv .0) (c .in-Some .ensures tt .reads) (ap rec-of (c .in-Job .is))
+        ∙ refused-job items (c .args .m) last jobs notes rest (it .draft) (it .pair) (it .status) off;
+      roomy = c .loop-record .inv .1;
+    }
 
 pub loop-record-again-in-Job : need.loop-record-again-in-Job
 loop-record-again-in-Job c =
@@ -52,7 +60,7 @@ loop-record-again-in-Job c =
     let it = c .in-Job .job in
     let p = c .in-Some-admit .placement in
     let in-it : admitted (c .args .m) last jobs (it .draft) (it .pair) (it .status) ≡ Some p =
-    ap (λ (n : ℕ). admitted (c .args .m) last n (it .draft) (it .pair) (it .status)) (sym (c .len .ensures)) ∙ sym (c .in-Some-admit .ensures tt) in
+    admitted-at (c .args .m) last (c .len .result) jobs (it .draft) (it .pair) (it .status) (Some p) (c .len .ensures) (c .in-Some-admit .ensures tt) in
     let pushed = c .push-reserved .ensures in (
       seen _ items (c .args .m) last jobs notes (ahead (c .loop-record .reader)) rest (rec-of (c .in-Some .record)) (job (it .draft) (it .pair) (it .status))
           (c .loop-record .inv .0) (c .in-Some .ensures tt .reads) (ap rec-of (c .in-Job .is))
@@ -70,9 +78,13 @@ returns-then-notes-ge64 c =
     let last = c .loop-record .last in
     let notes = c .loop-record .notes in
     let rest = ahead (c .next .last .self) in
-    seen _ items (c .args .m) last jobs notes (ahead (c .loop-record .reader)) rest (rec-of (c .in-Some .record)) (note (c .in-Note .field-0 .now))
-    (c .loop-record .inv .0) (c .in-Some .ensures tt .reads) (ap rec-of (c .in-Note .is))
-    ∙ ap (λ (b : Bool). following items (cond b (body-of (c .args .m) last jobs (notes + 1) rest) None)) (le-ltb notes 64 (c .if-notes-ge64 .taken))
+    record {
+      holds =
+        seen _ items (c .args .m) last jobs notes (ahead (c .loop-record .reader)) rest (rec-of (c .in-Some .record)) (note (c .in-Note .field-0 .now))
+        (c .loop-record .inv .0) (c .in-Some .ensures tt .reads) (ap rec-of (c .in-Note .is))
+        ∙ ap (λ (b : Bool). following items (cond b (body-of (c .args .m) last jobs (notes + 1) rest) None)) (le-ltb notes 64 (c .if-notes-ge64 .taken));
+      roomy = c .loop-record .inv .1;
+    }
 
 pub loop-record-again : need.loop-record-again
 loop-record-again c =
@@ -95,11 +107,19 @@ returns-in-End c =
     let last = c .loop-record .last in
     let notes = c .loop-record .notes in
     let rest = ahead (c .next .last .self) in
-    seen _ items (c .args .m) last jobs notes (ahead (c .loop-record .reader)) rest (rec-of (c .in-Some .record)) end
-    (c .loop-record .inv .0) (c .in-Some .ensures tt .reads) (ap rec-of (c .in-End .is))
-    ∙ at-last (eqb (length rest) 0) items ∙ ap (λ (b : Bool). whenTrue b items) (sym (c .at-end .ensures))
+    record {
+      holds =
+        seen _ items (c .args .m) last jobs notes (ahead (c .loop-record .reader)) rest (rec-of (c .in-Some .record)) end
+        (c .loop-record .inv .0) (c .in-Some .ensures tt .reads) (ap rec-of (c .in-End .is))
+        ∙ at-last (eqb (length rest) 0) items ∙ ap (λ (b : Bool). whenTrue b items) (sym (c .at-end .ensures));
+      roomy = c .loop-record .inv .1;
+    }
 
 pub returns : need.returns
 returns c =
-    turn _ (vec-items (c .loop-record .out)) (c .args .m) (c .loop-record .last) (vec-len (c .loop-record .out)) (c .loop-record .notes)
-    (ahead (c .loop-record .reader)) None (c .loop-record .inv .0) (c .in-rest .ensures tt .reads)
+    record {
+      holds =
+        turn _ (vec-items (c .loop-record .out)) (c .args .m) (c .loop-record .last) (vec-len (c .loop-record .out)) (c .loop-record .notes)
+        (ahead (c .loop-record .reader)) None (c .loop-record .inv .0) (c .in-rest .ensures tt .reads);
+      roomy = c .loop-record .inv .1;
+    }
