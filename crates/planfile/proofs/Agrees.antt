@@ -65,23 +65,23 @@ module _ (m : ℕ) where
   job-so last jobs notes onward d q s xs rest ps sound all few e (Some p) is None go so = none-some ps (Body m last jobs notes xs ps) so
   job-so last jobs notes onward d q s xs rest ps sound all few e (Some p) is (Some qs) go so =
       elim (split (ltb jobs 96 && ltb last (d .number)) (placement-of m d q s) None (Some p) is) [
-        inl w ↦
-          let tests = and-parts (ltb jobs 96) (ltb last (d .number)) (w .0) in
-          let room : jobs < 96 = ltb-true jobs 96 (tests .0) in
-          let above : last < d .number = ltb-true last (d .number) (tests .1) in
-          let stands = placed-so m d q s p (w .1) in
-          let same : number p ≡ d .number = stands .terms .number in
-          let b = sound (d .number) (jobs + 1) notes qs all (omega arith) few go in
-          subst (λ (v : List Placement). Body m last jobs notes xs v) (same-some (p ∷ qs) ps so)
-          (record {
-            items = job d q s ∷ b .items;
-            laid-out = laid (job d q s) (b .items) xs rest e (b .laid-out);
-            between = (stands, b .between);
-            rising = (omega arith, subst (λ (v : ℕ). Rising-from v qs) (sym same) (b .rising));
-            few-jobs = omega (arith, b .few-jobs);
-            few-notes = b .few-notes;
-          })
-      | inr w ↦ none-some p (Body m last jobs notes xs ps) (w .1)
+        | inl w ↦
+            let tests = and-parts (ltb jobs 96) (ltb last (d .number)) (w .0) in
+            let room : jobs < 96 = ltb-true jobs 96 (tests .0) in
+            let above : last < d .number = ltb-true last (d .number) (tests .1) in
+            let stands = placed-so m d q s p (w .1) in
+            let same : number p ≡ d .number = stands .terms .number in
+            let b = sound (d .number) (jobs + 1) notes qs all (omega arith) few go in
+            subst (λ (v : List Placement). Body m last jobs notes xs v) (same-some (p ∷ qs) ps so)
+            (record {
+              items = job d q s ∷ b .items;
+              laid-out = laid (job d q s) (b .items) xs rest e (b .laid-out);
+              between = (stands, b .between);
+              rising = (omega arith, subst (λ (v : ℕ). Rising-from v qs) (sym same) (b .rising));
+              few-jobs = omega (arith, b .few-jobs);
+              few-notes = b .few-notes;
+            })
+        | inr w ↦ none-some p (Body m last jobs notes xs ps) (w .1)
       ]
 
   record-so :
@@ -94,32 +94,32 @@ module _ (m : ℕ) where
       (onward (d .number) (jobs + 1) notes rest) refl so
   record-so last jobs notes onward (note text) xs rest ps sound all j n fits e so =
       elim (split (ltb notes 64) (onward last jobs (notes + 1) rest) None (Some ps) so) [
-        inl w ↦
-          let room : notes < 64 = ltb-true notes 64 (w .0) in
-          let b = sound last jobs (notes + 1) ps all j (omega arith) (w .1) in
-          record {
-            items = note text ∷ b .items;
-            laid-out = laid (note text) (b .items) xs rest e (b .laid-out);
-            between = (fits, b .between);
-            rising = b .rising;
-            few-jobs = b .few-jobs;
-            few-notes = omega (arith, b .few-notes);
-          }
-      | inr w ↦ none-some ps (Body m last jobs notes xs ps) (w .1)
+        | inl w ↦
+            let room : notes < 64 = ltb-true notes 64 (w .0) in
+            let b = sound last jobs (notes + 1) ps all j (omega arith) (w .1) in
+            record {
+              items = note text ∷ b .items;
+              laid-out = laid (note text) (b .items) xs rest e (b .laid-out);
+              between = (fits, b .between);
+              rising = b .rising;
+              few-jobs = b .few-jobs;
+              few-notes = omega (arith, b .few-notes);
+            }
+        | inr w ↦ none-some ps (Body m last jobs notes xs ps) (w .1)
       ]
   record-so last jobs notes onward end xs rest ps sound all j n fits e so =
       elim (split (eqb (length rest) 0) (Some []) None (Some ps) so) [
-        inl w ↦
-          subst (λ (v : List Placement). Body m last jobs notes xs v) (same-some [] ps (w .1))
-          (record {
-            items = [];
-            laid-out = e ∙ ap (λ (v : List ℕ). 9 ∷ v) (none-left rest (eqb-true (length rest) 0 (w .0)));
-            between = tt;
-            rising = tt;
-            few-jobs = omega arith;
-            few-notes = omega arith;
-          })
-      | inr w ↦ none-some ps (Body m last jobs notes xs ps) (w .1)
+        | inl w ↦
+            subst (λ (v : List Placement). Body m last jobs notes xs v) (same-some [] ps (w .1))
+            (record {
+              items = [];
+              laid-out = e ∙ ap (λ (v : List ℕ). 9 ∷ v) (none-left rest (eqb-true (length rest) 0 (w .0)));
+              between = tt;
+              rising = tt;
+              few-jobs = omega arith;
+              few-notes = omega arith;
+            })
+        | inr w ↦ none-some ps (Body m last jobs notes xs ps) (w .1)
       ]
 
   first-so :
@@ -190,11 +190,11 @@ module _ (m : ℕ) (few : m ≤ 16) where
       let room : jobs < 96 = omega arith in
       let above : last < d .number = omega (arith, rising .0) in
       let is : admitted m last jobs d q s ≡ Some p =
-          ap (λ (b : Bool). cond b (placement-of m d q s) None)
-          (and-from (ltb jobs 96) (ltb last (d .number)) (lt-ltb jobs 96 room) (lt-ltb last (d .number) above))
-          ∙ placed m d q s p (between .0) in
+      ap (λ (b : Bool). cond b (placement-of m d q s) None)
+      (and-from (ltb jobs 96) (ltb last (d .number)) (lt-ltb jobs 96 room) (lt-ltb last (d .number) above))
+      ∙ placed m d q s p (between .0) in
       let onward : body-of m (d .number) (jobs + 1) notes rest ≡ Some ps =
-          body-met (d .number) (jobs + 1) notes items ps (between .1) (subst (λ (v : ℕ). Rising-from v ps) same (rising .1)) (omega arith) n in
+      body-met (d .number) (jobs + 1) notes items ps (between .1) (subst (λ (v : ℕ). Rising-from v ps) same (rising .1)) (omega arith) n in
       met last jobs notes (job d q s) items (job-fits m d q s p few (between .0))
       ∙ ap (λ (v : Option Placement). after-job v (body-of m (d .number) (jobs + 1) notes rest)) is
       ∙ ap (λ (v : Option (List Placement)). after-job (Some p) v) onward
@@ -206,10 +206,10 @@ computed code xs m ps all file =
     let two = file .two-machines in
     let sixteen = file .sixteen-machines in
     let tests : (eqb code code && (leb 2 m && leb m 16)) ≡ true =
-        and-from (eqb code code) (leb 2 m && leb m 16) (eq-eqb code code refl)
-        (and-from (leb 2 m) (leb m 16) (le-leb 2 m two) (le-leb m 16 sixteen)) in
+    and-from (eqb code code) (leb 2 m && leb m 16) (eq-eqb code code refl)
+    (and-from (leb 2 m) (leb m 16) (le-leb 2 m two) (le-leb m 16 sixteen)) in
     let body : body-of m 0 0 0 rest ≡ Some ps =
-        body-met m sixteen 0 0 0 (file .items) ps (file .jobs-and-notes) (file .rising) (omega (arith, file .few-jobs)) (omega (arith, file .few-notes)) in
+    body-met m sixteen 0 0 0 (file .items) ps (file .jobs-and-notes) (file .rising) (omega (arith, file .few-jobs)) (omega (arith, file .few-notes)) in
     ap (λ (v : List ℕ). plan-of code v) (file .laid-out)
     ∙ ap (λ (v : Option (Rec × List ℕ)). by-head code v) (reads-back (head code m) rest (code-fits, omega arith))
     ∙ ap (λ (b : Bool). cond b (on-machines m (body-of m 0 0 0 rest)) None) tests
@@ -245,17 +245,17 @@ head-so :
     cond (eqb c code && (leb 2 k && leb k 16)) (on-machines k o) None ≡ Some (m, ps) → PlanFile code xs m ps
 head-so code xs m ps c k rest laid-so all None is so =
     elim (split (eqb c code && (leb 2 k && leb k 16)) None None (Some (m, ps)) so) [
-      inl w ↦ none-some (m, ps) (PlanFile code xs m ps) (w .1)
-    | inr w ↦ none-some (m, ps) (PlanFile code xs m ps) (w .1)
+      | inl w ↦ none-some (m, ps) (PlanFile code xs m ps) (w .1)
+      | inr w ↦ none-some (m, ps) (PlanFile code xs m ps) (w .1)
     ]
 head-so code xs m ps c k rest laid-so all (Some qs) is so =
     elim (split (eqb c code && (leb 2 k && leb k 16)) (Some (k, qs)) None (Some (m, ps)) so) [
-      inl w ↦
-        let a = and-parts (eqb c code) (leb 2 k && leb k 16) (w .0) in
-        let b = and-parts (leb 2 k) (leb k 16) (a .1) in
-        under code xs m ps c k rest qs laid-so (eqb-true c code (a .0)) (leb-true 2 k (b .0)) (leb-true k 16 (b .1))
-        (body-so k rest qs all is) (w .1)
-    | inr w ↦ none-some (m, ps) (PlanFile code xs m ps) (w .1)
+      | inl w ↦
+          let a = and-parts (eqb c code) (leb 2 k && leb k 16) (w .0) in
+          let b = and-parts (leb 2 k) (leb k 16) (a .1) in
+          under code xs m ps c k rest qs laid-so (eqb-true c code (a .0)) (leb-true 2 k (b .0)) (leb-true k 16 (b .1))
+          (body-so k rest qs all is) (w .1)
+      | inr w ↦ none-some (m, ps) (PlanFile code xs m ps) (w .1)
     ]
 
 first-is :

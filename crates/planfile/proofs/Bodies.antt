@@ -83,14 +83,17 @@ pub seen :
 seen all before m last jobs notes xs rest found r so-far read is =
     turn all before m last jobs notes xs (Some (r, rest)) so-far (read ∙ ap (λ (v : Rec). Some (v, rest)) is)
 
--- a job that is admitted, and one that is not
+-- a job that is admitted, once its placement is pushed, and one that is not
 pub seen-job :
-    (before : List Placement) (m last jobs notes : ℕ) (rest : List ℕ) (d : Draft) (q s : ℕ) (p : Placement) →
-    admitted m last jobs d q s ≡ Some p →
-    following before (judge m last jobs notes (body-of m) (job d q s) rest) ≡ following (before ++ p ∷ []) (body-of m (d .number) (jobs + 1) notes rest)
-seen-job before m last jobs notes rest d q s p is =
-    ap (λ (v : Option Placement). following before (after-job v (body-of m (d .number) (jobs + 1) notes rest))) is
+    (all : Option (List Placement)) (before after : List Placement) (m last jobs more notes : ℕ) (rest : List ℕ) (d : Draft) (q s : ℕ) (p : Placement) →
+    all ≡ following before (judge m last jobs notes (body-of m) (job d q s) rest) → admitted m last jobs d q s ≡ Some p →
+    after ≡ before ++ p ∷ [] → more ≡ jobs + 1 → all ≡ following after (body-of m (d .number) more notes rest)
+seen-job all before after m last jobs more notes rest d q s p so-far is pushed counted =
+    so-far
+    ∙ ap (λ (v : Option Placement). following before (after-job v (body-of m (d .number) (jobs + 1) notes rest))) is
     ∙ following-more before p (body-of m (d .number) (jobs + 1) notes rest)
+    ∙ ap (λ (v : List Placement). following v (body-of m (d .number) (jobs + 1) notes rest)) (sym pushed)
+    ∙ ap (λ (n : ℕ). following after (body-of m (d .number) n notes rest)) (sym counted)
 
 pub refused-job :
     (before : List Placement) (m last jobs notes : ℕ) (rest : List ℕ) (d : Draft) (q s : ℕ) → admitted m last jobs d q s ≡ None →

@@ -1,14 +1,13 @@
-ghost use mathlib.Core.Bool.{true, cond, _&&_};
 ghost use mathlib.Core.List.{[]};
 ghost use mathlib.Core.Path.{_≡_};
-ghost use Prim.Native.Nat.{_≤_};
-ghost use lib.Dec.{eqb, leb, ltb};
+ghost use Prim.Native.Nat.{_<_, _≤_};
+ghost use lib.Dec.{leb};
 ghost use Rattle.std.specs.Of.Vec.{vec-cap, vec-items, vec-len};
 ghost use Rattle.std.specs.declared.option.Option.the-variants.{None};
 ghost use Rattle.std.specs.Options.{Cases, isSome, whenTrue};
-ghost use Rattle.std.specs.Results.{Cases as ByOk, isOk};
+ghost use Rattle.std.specs.Results.{Cases as ByOk};
 ghost use Rattle.std.specs.Vec.{made};
-ghost use Rattle.planfile.specs.Jobs.{Places, placeable, placement-of, status-byte};
+ghost use Rattle.planfile.specs.Jobs.{Places, placeable, status-byte};
 ghost use Rattle.planfile.specs.Judging.{Agree, admitted, body-of, on-machines, plan-of, with-placements};
 ghost use Rattle.planfile.specs.Shown.{ahead};
 use crate::reader::Reader;
@@ -105,7 +104,13 @@ fn read_body(reader: &mut Reader, m: u8, out: &mut Vec<Placement>) -> bool
 fn read_head(reader: &mut Reader, code: u8) -> Option<u8>
     ensures { λ r. ⌜ Cases r (plan-of code (ahead (now (reader .entry))) ≡ None) (λ m. plan-of code (ahead (now (reader .entry))) ≡ on-machines m (body-of m 0 0 0 (ahead (now (reader .exit))))) ⌝ }
 {
-    let Some(Record::Head { code: found, machines }) = reader.next() else {
+    let Some(
+        Record::Head {
+            code: found,
+            machines,
+        },
+    ) = reader.next()
+    else {
         return None;
     };
     if found == code && machines >= 2 && machines <= 16 {
@@ -128,7 +133,7 @@ fn open<'a>(bytes: &'a [u8]) -> Reader<'a>
 pub fn read_plan(code: u8, bytes: &[u8], out: &mut Vec<Placement>) -> Result<Option<u8>, AllocError>
     ensures plan { λ r. ⌜ made r (λ m. plan-of code (now (bytes .entry)) ≡ with-placements m (vec-items (now (out .exit)))) ⌝ }
     ensures empty { λ r. ⌜ ByOk r (λ m. Cases m (vec-items (now (out .exit)) ≡ []) (λ _. Unit {0})) (λ _. vec-items (now (out .exit)) ≡ []) ⌝ }
-    ensures roomy { λ r. ⌜ (96 ≤ vec-cap (now (out .entry)) → (isOk r ≡ true) × (96 ≤ vec-cap (now (out .exit)))) ⌝ }
+    ensures roomy { λ r. ⌜ ByOk r (λ _. 96 ≤ vec-cap (now (out .exit))) (λ _. vec-cap (now (out .entry)) < 96) ⌝ }
     ensures agrees { λ _. ⌜ Agree ⌝ }
 {
     let mut reader = open(bytes);

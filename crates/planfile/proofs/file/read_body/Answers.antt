@@ -27,8 +27,8 @@ returns-in-Head c =
     let rest = ahead (c .next .last .self) in
     record {
       holds =
-        seen _ items (c .args .m) last jobs notes (ahead (c .loop-record .reader)) rest (rec-of (c .in-Some .record)) (head (c .in-Head .code) (c .in-Head .machines))
-        (c .loop-record .inv .0) (c .in-Some .ensures tt .reads) (ap rec-of (c .in-Head .is));
+          seen _ items (c .args .m) last jobs notes (ahead (c .loop-record .reader)) rest (rec-of (c .in-Some .record)) (head (c .in-Head .code) (c .in-Head .machines))
+          (c .loop-record .inv .0) (c .in-Some .ensures tt .reads) (ap rec-of (c .in-Head .is));
       roomy = c .loop-record .inv .1;
     }
 
@@ -44,9 +44,9 @@ returns-in-rest-admit c =
     admitted-at (c .args .m) last (c .len .result) jobs (it .draft) (it .pair) (it .status) None (c .len .ensures) (c .in-rest-admit .ensures tt) in
     record {
       holds =
-        seen _ items (c .args .m) last jobs notes (ahead (c .loop-record .reader)) rest (rec-of (c .in-Some .record)) (job (it .draft) (it .pair) (it .status))
-        (c .loop-record .inv .0) (c .in-Some .ensures tt .reads) (ap rec-of (c .in-Job .is))
-        ∙ refused-job items (c .args .m) last jobs notes rest (it .draft) (it .pair) (it .status) off;
+          seen _ items (c .args .m) last jobs notes (ahead (c .loop-record .reader)) rest (rec-of (c .in-Some .record)) (job (it .draft) (it .pair) (it .status))
+          (c .loop-record .inv .0) (c .in-Some .ensures tt .reads) (ap rec-of (c .in-Job .is))
+          ∙ refused-job items (c .args .m) last jobs notes rest (it .draft) (it .pair) (it .status) off;
       roomy = c .loop-record .inv .1;
     }
 
@@ -62,11 +62,11 @@ loop-record-again-in-Job c =
     let in-it : admitted (c .args .m) last jobs (it .draft) (it .pair) (it .status) ≡ Some p =
     admitted-at (c .args .m) last (c .len .result) jobs (it .draft) (it .pair) (it .status) (Some p) (c .len .ensures) (c .in-Some-admit .ensures tt) in
     let pushed = c .push-reserved .ensures in (
-      seen _ items (c .args .m) last jobs notes (ahead (c .loop-record .reader)) rest (rec-of (c .in-Some .record)) (job (it .draft) (it .pair) (it .status))
-          (c .loop-record .inv .0) (c .in-Some .ensures tt .reads) (ap rec-of (c .in-Job .is))
-          ∙ seen-job items (c .args .m) last jobs notes rest (it .draft) (it .pair) (it .status) p in-it
-          ∙ ap (λ (v : List Placement). following v (body-of (c .args .m) (it .draft .number) (jobs + 1) notes rest)) (sym (pushed .items))
-          ∙ ap (λ (n : ℕ). following (vec-items (c .push-reserved .last .self)) (body-of (c .args .m) (it .draft .number) n notes rest)) (sym (pushed .len)),
+      seen-job _ items (vec-items (c .push-reserved .last .self)) (c .args .m) last jobs (vec-len (c .push-reserved .last .self)) notes rest
+          (it .draft) (it .pair) (it .status) p
+          (seen _ items (c .args .m) last jobs notes (ahead (c .loop-record .reader)) rest (rec-of (c .in-Some .record)) (job (it .draft) (it .pair) (it .status))
+          (c .loop-record .inv .0) (c .in-Some .ensures tt .reads) (ap rec-of (c .in-Job .is)))
+          in-it (pushed .items) (pushed .len),
       omega (arith, pushed .capacity, c .loop-record .inv .1),
       c .loop-record .inv .2,
     )
@@ -80,9 +80,9 @@ returns-then-notes-ge64 c =
     let rest = ahead (c .next .last .self) in
     record {
       holds =
-        seen _ items (c .args .m) last jobs notes (ahead (c .loop-record .reader)) rest (rec-of (c .in-Some .record)) (note (c .in-Note .field-0 .now))
-        (c .loop-record .inv .0) (c .in-Some .ensures tt .reads) (ap rec-of (c .in-Note .is))
-        ∙ ap (λ (b : Bool). following items (cond b (body-of (c .args .m) last jobs (notes + 1) rest) None)) (le-ltb notes 64 (c .if-notes-ge64 .taken));
+          seen _ items (c .args .m) last jobs notes (ahead (c .loop-record .reader)) rest (rec-of (c .in-Some .record)) (note (c .in-Note .field-0 .now))
+          (c .loop-record .inv .0) (c .in-Some .ensures tt .reads) (ap rec-of (c .in-Note .is))
+          ∙ ap (λ (b : Bool). following items (cond b (body-of (c .args .m) last jobs (notes + 1) rest) None)) (le-ltb notes 64 (c .if-notes-ge64 .taken));
       roomy = c .loop-record .inv .1;
     }
 
@@ -109,9 +109,9 @@ returns-in-End c =
     let rest = ahead (c .next .last .self) in
     record {
       holds =
-        seen _ items (c .args .m) last jobs notes (ahead (c .loop-record .reader)) rest (rec-of (c .in-Some .record)) end
-        (c .loop-record .inv .0) (c .in-Some .ensures tt .reads) (ap rec-of (c .in-End .is))
-        ∙ at-last (eqb (length rest) 0) items ∙ ap (λ (b : Bool). whenTrue b items) (sym (c .at-end .ensures));
+          seen _ items (c .args .m) last jobs notes (ahead (c .loop-record .reader)) rest (rec-of (c .in-Some .record)) end
+          (c .loop-record .inv .0) (c .in-Some .ensures tt .reads) (ap rec-of (c .in-End .is))
+          ∙ at-last (eqb (length rest) 0) items ∙ ap (λ (b : Bool). whenTrue b items) (sym (c .at-end .ensures));
       roomy = c .loop-record .inv .1;
     }
 
@@ -119,7 +119,7 @@ pub returns : need.returns
 returns c =
     record {
       holds =
-        turn _ (vec-items (c .loop-record .out)) (c .args .m) (c .loop-record .last) (vec-len (c .loop-record .out)) (c .loop-record .notes)
-        (ahead (c .loop-record .reader)) None (c .loop-record .inv .0) (c .in-rest .ensures tt .reads);
+          turn _ (vec-items (c .loop-record .out)) (c .args .m) (c .loop-record .last) (vec-len (c .loop-record .out)) (c .loop-record .notes)
+          (ahead (c .loop-record .reader)) None (c .loop-record .inv .0) (c .in-rest .ensures tt .reads);
       roomy = c .loop-record .inv .1;
     }
