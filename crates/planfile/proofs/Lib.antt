@@ -4,3 +4,4 @@ mod Records
 mod Places
 mod Bodies
 mod Agrees
+mod Page
