@@ -7,7 +7,7 @@ ghost use Rattle.std.specs.declared.option.Option.the-variants.{None};
 ghost use Rattle.std.specs.Options.{Cases, isSome, whenTrue};
 ghost use Rattle.std.specs.Results.{Cases as ByOk};
 ghost use Rattle.std.specs.Vec.{made};
-ghost use Rattle.planfile.specs.Jobs.{Places, placeable, status-byte};
+ghost use Rattle.planfile.specs.Jobs.{Places, placeable, placement-of, status-byte};
 ghost use Rattle.planfile.specs.Judging.{Agree, admitted, body-of, on-machines, plan-of, with-placements};
 ghost use Rattle.planfile.specs.Shown.{ahead};
 use crate::reader::Reader;
@@ -56,12 +56,19 @@ fn place(m: u8, job: JobRecord) -> Option<Placement>
     })
 }
 
+// The same by its definition.
+fn placement(m: u8, job: JobRecord) -> Option<Placement>
+    ensures { λ r. ⌜ r ≡ placement-of m (job .draft) (job .pair) (job .status) ⌝ }
+{
+    place(m, job)
+}
+
 // The next job's placement, after so many jobs of which the last has the number `last`.
 fn admit(m: u8, last: u32, jobs: usize, job: JobRecord) -> Option<Placement>
     ensures { λ r. ⌜ r ≡ admitted m last jobs (job .draft) (job .pair) (job .status) ⌝ }
 {
     if jobs < 96 && last < job.draft.number {
-        place(m, job)
+        placement(m, job)
     } else {
         None
     }
