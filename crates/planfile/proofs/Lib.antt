@@ -1,7 +1,7 @@
 mod Ways
 mod Numbers
-mod Records
-mod Places
+pub mod Records
+pub mod Places
 mod Bodies
-mod Agrees
+pub mod Agrees
 mod Page
