@@ -1,6 +1,5 @@
 -- The number of a pair and the machines of a number undo each other.
-use mathlib.Core.Path.{_≡_}
-use Rattle.pairs.specs.Pairs.{Inverse, pair-machines, pair-number}
+use Rattle.pairs.specs.Pairs.{Inverse}
 use native.Mathlib.Omega.{arith}
 use Rattle.std.proofs.shelf.Ways.{tells}
 

@@ -1,25 +1,21 @@
 -- What is computed of bytes is exactly what they hold.
 use mathlib.Core.Path.{_≡_, refl, sym, ap, subst, _∙_}
-use mathlib.Core.Bool.{Bool, true, false, cond, _&&_}
-use mathlib.Core.List.{List, [], _∷_, _++_, append-assoc, append-nil}
+use mathlib.Core.Bool.{Bool, true, cond, _&&_}
+use mathlib.Core.List.{List, [], _∷_, _++_, append-assoc}
 use mathlib.Core.Logic.{inl, inr}
-use Prim.Native.Nat.{ℕ, zero, suc, _+_, _≤_, _<_, _^_}
+use Prim.Native.Nat.{ℕ, zero, suc, _+_, _≤_, _<_}
 use native.Mathlib.Omega.{arith}
 use lib.Dec.{eqb, leb, ltb}
-use lib.ListN.{length, getD}
+use lib.ListN.{length}
 use Rattle.std.proofs.shelf.Tests.{and-parts, and-from, ltb-true, leb-true, eqb-true, lt-ltb, le-leb, eq-eqb}
 use Rattle.std.specs.declared.option.Option.{Option}
 use Rattle.std.specs.declared.option.Option.the-variants.{Some, None}
 use Rattle.terms.specs.declared.draft.Draft.{Draft}
-use Rattle.terms.specs.declared.terms.Terms.{Terms}
 use Rattle.terms.specs.Making.{Of}
-use Rattle.rack.specs.declared.placement.Status.{Status}
-use Rattle.rack.specs.declared.placement.Status.the-variants.{Passive, Active}
 use Rattle.rack.specs.declared.placement.Placement.{Placement}
 use Rattle.rack.specs.Plan.{number}
-use Rattle.pairs.specs.Pairs.{pair-machines}
 use Rattle.planfile.specs.Format.{Rec, head, job, note, end, encode, Fits, Job-fits, Bytes, parse-record}
-use Rattle.planfile.specs.Jobs.{Places, placement-of, status-byte}
+use Rattle.planfile.specs.Jobs.{Places, placement-of}
 use Rattle.planfile.specs.File.{encode-all, Between, notes-in, Rising-from, PlanFile}
 use Rattle.planfile.specs.Judging.{Onward, after-job, admitted, judge, judge-first, body-within, body-of, on-machines, under-head, by-head, plan-of, Agree}
 use Rattle.planfile.proofs.Ways.{split, none-some, same-some}
@@ -45,7 +41,9 @@ record Body (m last jobs notes : ℕ) (xs : List ℕ) (ps : List Placement) : Ty
   few-notes : notes + notes-in items ≤ 64
 
 -- a record that can be written, with what follows it
-laid : (r : Rec) (items : List Rec) (xs rest : List ℕ) → xs ≡ encode r ++ rest → rest ≡ encode-all items ++ encode end → xs ≡ encode-all (r ∷ items) ++ encode end
+laid :
+    (r : Rec) (items : List Rec) (xs rest : List ℕ) → xs ≡ encode r ++ rest → rest ≡ encode-all items ++ encode end →
+    xs ≡ encode-all (r ∷ items) ++ encode end
 laid r items xs rest e f = e ∙ ap (λ (v : List ℕ). encode r ++ v) f ∙ sym (append-assoc (encode r) (encode-all items) (encode end))
 
 module _ (m : ℕ) where
@@ -199,7 +197,9 @@ module _ (m : ℕ) (few : m ≤ 16) where
       ∙ ap (λ (v : Option Placement). after-job v (body-of m (d .number) (jobs + 1) notes rest)) is
       ∙ ap (λ (v : Option (List Placement)). after-job (Some p) v) onward
 
-computed : (code : ℕ) (xs : List ℕ) (m : ℕ) (ps : List Placement) → Bytes xs → PlanFile code xs m ps → plan-of code xs ≡ Some (m, ps)
+computed :
+    (code : ℕ) (xs : List ℕ) (m : ℕ) (ps : List Placement) → Bytes xs → PlanFile code xs m ps →
+    plan-of code xs ≡ Some (m, ps)
 computed code xs m ps all file =
     let rest = encode-all (file .items) ++ encode end in
     let code-fits : code < 256 = byte-at (encode (head code m) ++ rest) 1 (subst Bytes (file .laid-out) all) in

@@ -6,7 +6,7 @@ use Prim.Native.Nat.{ℕ, zero, suc, _+_, _≤_, _<_}
 use native.Mathlib.Omega.{arith}
 use lib.Dec.{ltb}
 use lib.ListN.{length}
-use Rattle.std.specs.Options.{mapped, whenTrue}
+use Rattle.std.specs.Options.{whenTrue}
 use Rattle.std.specs.declared.option.Option.{Option}
 use Rattle.std.specs.declared.option.Option.the-variants.{Some, None}
 use Rattle.terms.specs.declared.draft.Draft.{Draft}
@@ -62,7 +62,9 @@ body-step m last jobs notes (x ∷ xs) =
     (λ l j c ys s. enough (length xs) (length ys) m ys (omega arith) (omega arith) l j c)
 
 -- what follows one placement more
-pub following-more : (before : List Placement) (p : Placement) (o : Option (List Placement)) → following before (after-job (Some p) o) ≡ following (before ++ p ∷ []) o
+pub following-more :
+    (before : List Placement) (p : Placement) (o : Option (List Placement)) →
+    following before (after-job (Some p) o) ≡ following (before ++ p ∷ []) o
 following-more before p None = refl
 following-more before p (Some ps) = ap (λ (qs : List Placement). Some qs) (sym (append-assoc before (p ∷ []) ps))
 

@@ -1,7 +1,7 @@
 -- Numbers of two and of four bytes.
-use mathlib.Core.Path.{_≡_, refl}
-use mathlib.Core.List.{List, [], _∷_}
-use Prim.Native.Nat.{ℕ, _+_, _*_, _/_, _%_, _^_, _<_}
+use mathlib.Core.Path.{_≡_}
+use mathlib.Core.List.{[], _∷_}
+use Prim.Native.Nat.{ℕ, _+_, _*_, _/_, _%_, _<_}
 use native.Mathlib.Omega.{arith}
 use Rattle.planfile.specs.Format.{bytes-2, bytes-4}
 
@@ -18,7 +18,9 @@ digits-2 a b ha hb =
     let eb : n % 256 ≡ b = omega arith in
     rw (ea, eb)
 
-pub digits-4 : (a b c d : ℕ) → a < 256 → b < 256 → c < 256 → d < 256 → bytes-4 (a * 16777216 + b * 65536 + c * 256 + d) ≡ a ∷ b ∷ c ∷ d ∷ []
+pub digits-4 :
+    (a b c d : ℕ) → a < 256 → b < 256 → c < 256 → d < 256 →
+    bytes-4 (a * 16777216 + b * 65536 + c * 256 + d) ≡ a ∷ b ∷ c ∷ d ∷ []
 digits-4 a b c d ha hb hc hd =
     let n = a * 16777216 + b * 65536 + c * 256 + d in
     let ea : n / 16777216 ≡ a = omega arith in

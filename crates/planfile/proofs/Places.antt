@@ -1,12 +1,11 @@
 -- A job's record stands for at most one placement, and the test says whether for one.
-use mathlib.Core.Path.{_≡_, refl, sym, ap, subst, _∙_}
-use mathlib.Core.Bool.{Bool, true, false, cond, _&&_}
+use mathlib.Core.Path.{_≡_, refl, sym, ap, subst}
+use mathlib.Core.Bool.{Bool, true, false}
 use mathlib.Core.Logic.{inl, inr}
 use Prim.Native.Nat.{ℕ, zero, suc, _+_, _<_, _≤_}
 use native.Mathlib.Omega.{arith}
-use lib.Dec.{eqb, leb, ltb}
+use lib.Dec.{leb, ltb}
 use Rattle.std.proofs.shelf.Tests.{and-parts, and-from, ltb-true, leb-true, lt-ltb, le-leb, both-ways}
-use Rattle.std.proofs.shelf.Ways.{tells}
 use Rattle.std.specs.Options.{Cases, isSome}
 use Rattle.std.specs.declared.option.Option.{Option}
 use Rattle.std.specs.declared.option.Option.the-variants.{Some, None}
@@ -22,7 +21,9 @@ use Rattle.pairs.specs.Pairs.{pair-machines, primary-of, standby-of}
 use Rattle.planfile.proofs.Ways.{split, none-some, same-some}
 use Rattle.planfile.specs.Jobs.{Places, placeable, placed-by, placement-of, status-byte, status-of}
 
-same-placement : (p o : Placement) → p .terms ≡ o .terms → p .primary ≡ o .primary → p .standby ≡ o .standby → p .status ≡ o .status → p ≡ o
+same-placement :
+    (p o : Placement) → p .terms ≡ o .terms → p .primary ≡ o .primary → p .standby ≡ o .standby →
+    p .status ≡ o .status → p ≡ o
 same-placement p o t a b s = λ i. record { terms = t i; primary = a i; standby = b i; status = s i }
 
 -- the numbers of terms keep the limits
@@ -113,7 +114,9 @@ module _ (m : ℕ) (d : Draft) (q s : ℕ) where
   none-by false e f = refl
 
   -- what tells its test and stands for the record is the placement
-  pub placed-as : (r : Option Placement) → isSome r ≡ placeable m d q s → Cases r (Unit {0}) (λ p. Places m d q s p) → r ≡ placement-of m d q s
+  pub placed-as :
+      (r : Option Placement) → isSome r ≡ placeable m d q s → Cases r (Unit {0}) (λ p. Places m d q s p) →
+      r ≡ placement-of m d q s
   unfolding placement-of
   placed-as None test stands = sym (none-by (placeable m d q s) refl (sym test))
   placed-as (Some p) test stands = sym (found-by (placeable m d q s) refl p stands)

@@ -1,8 +1,7 @@
 -- What is written is read back, and what is read was written so.
-use mathlib.Core.Path.{_≡_, refl, sym, ap, subst, _∙_}
-use mathlib.Core.Bool.{Bool, true, false, cond}
+use mathlib.Core.Path.{_≡_, sym, ap, subst, _∙_}
 use mathlib.Core.List.{List, [], _∷_, _++_}
-use mathlib.Core.Logic.{_⊎_, inl, inr}
+use mathlib.Core.Logic.{inl, inr}
 use Prim.Native.Nat.{ℕ, zero, suc, _+_, _≤_, _<_}
 use native.Mathlib.Omega.{arith}
 use lib.Dec.{eqb, ltb}
@@ -13,11 +12,13 @@ use Rattle.std.proofs.shelf.Tests.{le-ltb, ne-eqb, ltb-false, eqb-true}
 use Rattle.std.specs.declared.option.Option.{Option}
 use Rattle.std.specs.declared.option.Option.the-variants.{Some, None}
 use Rattle.terms.specs.declared.draft.Draft.{Draft}
-use Rattle.planfile.specs.Format.{Rec, head, job, note, end, encode, Fits, Bytes, parse-record, of-kind, draft-at, job-at, bytes-2, bytes-4, number-2, number-4, ReadsBack, ReadsOnly, whole}
+use Rattle.planfile.specs.Format.{Rec, head, job, note, end, encode, Fits, Bytes, parse-record, of-kind, draft-at, job-at, ReadsBack, ReadsOnly, whole}
 use Rattle.planfile.proofs.Ways.{split, none-some}
 use Rattle.planfile.proofs.Numbers.{value-2, value-4, digits-2, digits-4}
 
-same-draft : (d e : Draft) → e .number ≡ d .number → e .period ≡ d .period → e .deadline ≡ d .deadline → e .run ≡ d .run → e .standby ≡ d .standby → e .lateness ≡ d .lateness → e ≡ d
+same-draft :
+    (d e : Draft) → e .number ≡ d .number → e .period ≡ d .period → e .deadline ≡ d .deadline → e .run ≡ d .run →
+    e .standby ≡ d .standby → e .lateness ≡ d .lateness → e ≡ d
 same-draft d e n p l r s j = λ i. record { number = n i; period = p i; deadline = l i; run = r i; standby = s i; lateness = j i }
 
 pub whole-there : (n : ℕ) (xs : List ℕ) (r : Rec) → n ≤ length xs → whole n xs r ≡ Some (r, drop n xs)
@@ -97,7 +98,9 @@ bytes-take (suc n) (x ∷ xs) all = (all .0, bytes-take n xs (all .1))
 abbrev Stands : List ℕ → Rec → List ℕ → Type 0
 Stands xs r rest = (xs ≡ encode r ++ rest) × Fits r
 
-stands-head : (xs : List ℕ) → Bytes xs → getD xs 0 0 ≡ 1 → 3 ≤ length xs → Stands xs (head (getD xs 1 0) (getD xs 2 0)) (drop 3 xs)
+stands-head :
+    (xs : List ℕ) → Bytes xs → getD xs 0 0 ≡ 1 → 3 ≤ length xs →
+    Stands xs (head (getD xs 1 0) (getD xs 2 0)) (drop 3 xs)
 stands-head xs all kind there = (spanned 3 0 xs there ∙ rw kind, (byte-at xs 1 all, byte-at xs 2 all))
 
 stands-end : (xs : List ℕ) → getD xs 0 0 ≡ 9 → 1 ≤ length xs → Stands xs end (drop 1 xs)
@@ -138,7 +141,9 @@ stands-job xs all kind there =
       },
     )
 
-read-so : (n : ℕ) (xs : List ℕ) (found r : Rec) (rest : List ℕ) → (n ≤ length xs → Stands xs found (drop n xs)) → whole n xs found ≡ Some (r, rest) → Stands xs r rest
+read-so :
+    (n : ℕ) (xs : List ℕ) (found r : Rec) (rest : List ℕ) → (n ≤ length xs → Stands xs found (drop n xs)) →
+    whole n xs found ≡ Some (r, rest) → Stands xs r rest
 read-so n xs found r rest stands e =
     let w = whole-is n xs found r rest e in
     subst (λ (v : List ℕ). Stands xs r v) (w .after) (subst (λ (v : Rec). Stands xs v (drop n xs)) (w .is) (stands (w .there)))
@@ -178,7 +183,9 @@ reads-only xs r rest all e =
     (λ k w. read-so 17 xs (note (take 16 (drop 1 xs))) r rest (stands-note xs all k) w)
     (λ k w. read-so 1 xs end r rest (stands-end xs k) w)
 
-whole-shorter : (n : ℕ) (xs : List ℕ) (found r : Rec) (rest : List ℕ) → 0 < n → whole n xs found ≡ Some (r, rest) → length rest < length xs
+whole-shorter :
+    (n : ℕ) (xs : List ℕ) (found r : Rec) (rest : List ℕ) → 0 < n → whole n xs found ≡ Some (r, rest) →
+    length rest < length xs
 whole-shorter n xs found r rest h e =
     let w = whole-is n xs found r rest e in
     omega (arith, length-drop n xs, ap length (w .after), w .there)

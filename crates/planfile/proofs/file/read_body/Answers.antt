@@ -1,19 +1,15 @@
 use mathlib.Core.Path.{_≡_, sym, ap, _∙_}
 use mathlib.Core.Bool.{Bool, cond}
-use mathlib.Core.List.{List, [], _∷_, _++_}
-use Prim.Native.Nat.{ℕ, _+_, _<_}
+use Prim.Native.Nat.{_+_}
 use native.Mathlib.Omega.{arith}
-use lib.Dec.{eqb, ltb}
+use lib.Dec.{eqb}
 use lib.ListN.{length}
 use Rattle.std.proofs.shelf.Tests.{le-ltb, lt-ltb}
 use Rattle.std.specs.Of.Vec.{vec-items, vec-len}
 use Rattle.std.specs.Options.{whenTrue}
-use Rattle.std.specs.declared.option.Option.{Option}
 use Rattle.std.specs.declared.option.Option.the-variants.{Some, None}
-use Rattle.rack.specs.declared.placement.Placement.{Placement}
-use Rattle.planfile.specs.declared.record.Record.{Record}
-use Rattle.planfile.specs.Format.{Rec, head, job, note, end, parse-record}
-use Rattle.planfile.specs.Judging.{admitted, after-job, body-of, following, judge-first}
+use Rattle.planfile.specs.Format.{head, job, note, end}
+use Rattle.planfile.specs.Judging.{admitted, body-of, following}
 use Rattle.planfile.specs.Shown.{ahead, rec-of}
 use Rattle.planfile.proofs.Bodies.{turn, seen, seen-job, refused-job, admitted-at, at-last}
 use Rattle.planfile.proofs.file.read_body.Needs as need
