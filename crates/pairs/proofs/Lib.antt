@@ -1,0 +1,2 @@
+mod Rule
+pub mod Inverses

@@ -1,0 +1,7 @@
+mod Ways
+mod Numbers
+pub mod Records
+pub mod Places
+mod Bodies
+pub mod Agrees
+mod Page
