@@ -24,9 +24,3 @@ abbrev pub Means : (Terms → Terms → Bool) → ℕ → List Placement → Ver
 Means before m ps NoPlan = Plan m ps → ⊥
 Means before m ps Fails = Plan m ps × (Passes before m ps → ⊥) × OneRun before ps
 Means before m ps Passing = Safe before m ps
-
--- 0, 1, 2
-abbrev pub verdict-number : Verdict → ℕ
-verdict-number NoPlan = 0
-verdict-number Fails = 1
-verdict-number Passing = 2

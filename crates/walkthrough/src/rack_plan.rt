@@ -95,53 +95,43 @@ fn tell_stop(rt: &LibcRuntime, plan: &[Placement], f: u8) -> io::Result<()> {
     Ok(())
 }
 
+// A job of period 20, on its two machines.
+fn wish(
+    number: u32,
+    deadline: u32,
+    run: u32,
+    standby_run: u32,
+    machines: (u8, u8),
+    status: Status,
+) -> Wish {
+    let draft = Draft {
+        number,
+        period: 20,
+        deadline,
+        run,
+        standby: standby_run,
+        lateness: 0,
+    };
+    Wish {
+        draft,
+        primary: machines.0,
+        standby: machines.1,
+        status,
+    }
+}
+
+// Three jobs, the third with this deadline.
+fn wishes(deadline: u32) -> [Wish; 3] {
+    [
+        wish(1, 8, 2, 4, (2, 0), Status::Passive),
+        wish(2, 9, 4, 4, (1, 0), Status::Active),
+        wish(3, deadline, 3, 5, (0, 2), Status::Active),
+    ]
+}
+
 pub fn tell(rt: &LibcRuntime) -> io::Result<()> {
     println!(rt, "Step 4. A rack of three machines.")?;
-    let one = Draft {
-        number: 1,
-        period: 20,
-        deadline: 8,
-        run: 2,
-        standby: 4,
-        lateness: 0,
-    };
-    let two = Draft {
-        number: 2,
-        period: 20,
-        deadline: 9,
-        run: 4,
-        standby: 4,
-        lateness: 0,
-    };
-    let three = Draft {
-        number: 3,
-        period: 20,
-        deadline: 11,
-        run: 3,
-        standby: 5,
-        lateness: 0,
-    };
-    let mut wishes = [
-        Wish {
-            draft: one,
-            primary: 2,
-            standby: 0,
-            status: Status::Passive,
-        },
-        Wish {
-            draft: two,
-            primary: 1,
-            standby: 0,
-            status: Status::Active,
-        },
-        Wish {
-            draft: three,
-            primary: 0,
-            standby: 2,
-            status: Status::Active,
-        },
-    ];
-    let plan = placements(rt.alloc(), &wishes)?;
+    let plan = placements(rt.alloc(), &wishes(11))?;
     tell_roles(rt, plan.as_slice())?;
     tell_verdict(rt, plan.as_slice())?;
     tell_stop(rt, plan.as_slice(), 2)?;
@@ -153,7 +143,6 @@ pub fn tell(rt: &LibcRuntime) -> io::Result<()> {
         rt,
         "  standby has worked before the stop, and then job 1's standby wakes."
     )?;
-    wishes[2].draft.deadline = 10;
-    let tight = placements(rt.alloc(), &wishes)?;
+    let tight = placements(rt.alloc(), &wishes(10))?;
     tell_verdict(rt, tight.as_slice())
 }
