@@ -96,7 +96,7 @@ fn tell_stop(rt: &LibcRuntime, plan: &[Placement], f: u8) -> io::Result<()> {
 }
 
 // A job of period 20, on its two machines.
-fn wish(
+fn job_on(
     number: u32,
     deadline: u32,
     run: u32,
@@ -123,9 +123,9 @@ fn wish(
 // Three jobs, the third with this deadline.
 fn wishes(deadline: u32) -> [Wish; 3] {
     [
-        wish(1, 8, 2, 4, (2, 0), Status::Passive),
-        wish(2, 9, 4, 4, (1, 0), Status::Active),
-        wish(3, deadline, 3, 5, (0, 2), Status::Active),
+        job_on(1, 8, 2, 4, (2, 0), Status::Passive),
+        job_on(2, 9, 4, 4, (1, 0), Status::Active),
+        job_on(3, deadline, 3, 5, (0, 2), Status::Active),
     ]
 }
 
