@@ -68,12 +68,12 @@ pub standby-same :
 standby-same test other p [] same = refl
 standby-same test other p (x ∷ bs) same =
     let here : (not (eqb x p) && test x) ≡ (not (eqb x p) && other x) =
-        ⊎-elim
-        (λ own.
-        and-left (not (eqb x p)) (test x) (not-from-true (eqb x p) (eq-eqb x p own))
-        ∙ sym (and-left (not (eqb x p)) (other x) (not-from-true (eqb x p) (eq-eqb x p own))))
-        (λ apart. ap (λ b. not (eqb x p) && b) (same x (inl refl) apart))
-        (cases-eq x p) in
+    ⊎-elim
+    (λ own.
+    and-left (not (eqb x p)) (test x) (not-from-true (eqb x p) (eq-eqb x p own))
+    ∙ sym (and-left (not (eqb x p)) (other x) (not-from-true (eqb x p) (eq-eqb x p own))))
+    (λ apart. ap (λ b. not (eqb x p) && b) (same x (inl refl) apart))
+    (cases-eq x p) in
     ap (λ b. cond b (Some x) (first-standby test p bs)) here
     ∙ ap (λ o. cond (not (eqb x p) && other x) (Some x) o) (standby-same test other p bs (λ b at. same b (inr at)))
 

@@ -31,8 +31,8 @@ returns-then-try-at g c =
     let took = c .if-try-at .ensures tt in
     let free = admitted-free ps (drafted (c .args .draft)) t ad in
     let choice =
-        ap (pin-admitted b m ps p s n) (sym ad) ∙ ap (pinned b m ps t p s) (sym st) ∙ pinned-is b m ps t (free .0) (free .1) p s status
-        ∙ ap (λ (x : Bool). cond x (Ok (p, s, status)) (Err Pin)) (sym (took .test)) in
+    ap (pin-admitted b m ps p s n) (sym ad) ∙ ap (pinned b m ps t p s) (sym st) ∙ pinned-is b m ps t (free .0) (free .1) p s status
+    ∙ ap (λ (x : Bool). cond x (Ok (p, s, status)) (Err Pin)) (sym (took .test)) in
     let jobs = took .jobs ∙ sym (ap (λ x. jobs-with ps x (pin-choice b m ps (c .args .draft) p s n)) (sym ad) ∙ ap (jobs-with ps (Ok t)) choice) in
     let own = placement-of t p s status in
     record {
@@ -60,8 +60,8 @@ returns g c =
     let took = c .if-try-at .ensures tt in
     let free = admitted-free ps (drafted (c .args .draft)) t ad in
     let choice =
-        ap (pin-admitted b m ps p s n) (sym ad) ∙ ap (pinned b m ps t p s) (sym st) ∙ pinned-is b m ps t (free .0) (free .1) p s status
-        ∙ ap (λ (x : Bool). cond x (Ok (p, s, status)) (Err Pin)) (sym (took .test)) in
+    ap (pin-admitted b m ps p s n) (sym ad) ∙ ap (pinned b m ps t p s) (sym st) ∙ pinned-is b m ps t (free .0) (free .1) p s status
+    ∙ ap (λ (x : Bool). cond x (Ok (p, s, status)) (Err Pin)) (sym (took .test)) in
     let jobs = took .jobs ∙ sym (ap (λ x. jobs-with ps x (pin-choice b m ps (c .args .draft) p s n)) (sym ad) ∙ ap (jobs-with ps (Ok t)) choice) in
     record {
       answer = sym (ap done choice);

@@ -44,9 +44,10 @@ returns g c =
           subst
           (λ (v : Terms).
           (c .chosen-of .result ≡ Err NoPlace → NoChoice b m ps v × NoneBesideMore b m ps v) × (NoChoice b m ps v → c .chosen-of .result ≡ Err NoPlace))
-          same
-          ((λ refused.
-          let none = no-choice b m ps t (free .0) (free .1) (turns m (loads ps)) each (chosen-refused _ (sym told ∙ refused)) in
-          (none, none-beside-more b m ps t (free .0) (free .1) (r .«rising_numbers») none)),
-          (λ none. told ∙ ap chosen (no-first b m ps t (free .0) (free .1) (turns m (loads ps)) each none)));
+          same (
+            (λ refused.
+                let none = no-choice b m ps t (free .0) (free .1) (turns m (loads ps)) each (chosen-refused _ (sym told ∙ refused)) in
+                (none, none-beside-more b m ps t (free .0) (free .1) (r .«rising_numbers») none)),
+            (λ none. told ∙ ap chosen (no-first b m ps t (free .0) (free .1) (turns m (loads ps)) each none)),
+          );
     }

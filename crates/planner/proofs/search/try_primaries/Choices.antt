@@ -10,4 +10,4 @@ Inv-loop-i g l =
     (vec-items (l .roster .placements) ≡ vec-items (l .entry .roster .placements))
     × (l .roster .machines ≡ l .entry .roster .machines)
     × (first-choice (tried-at (g .R·Precedence .before (l .rule)) (l .entry .roster .machines) (vec-items (l .entry .roster .placements)) (l .terms)) (l .turns) (l .turns)
-      ≡ first-choice (tried-at (g .R·Precedence .before (l .rule)) (l .entry .roster .machines) (vec-items (l .entry .roster .placements)) (l .terms)) (drop (l .i) (l .turns)) (l .turns))
+    ≡ first-choice (tried-at (g .R·Precedence .before (l .rule)) (l .entry .roster .machines) (vec-items (l .entry .roster .placements)) (l .terms)) (drop (l .i) (l .turns)) (l .turns))

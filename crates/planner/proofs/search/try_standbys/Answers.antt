@@ -21,8 +21,8 @@ returns-then-try-apart g c =
     let count = c .loop-i .inv .1 in
     let there = vec-items (c .loop-i .roster .placements) in
     let same =
-        ap (λ k. not (eqb x (c .args .primary)) && tried-at b k there (c .args .terms) (c .args .primary) (c .args .status) x) count
-        ∙ ap (λ qs. not (eqb x (c .args .primary)) && tried-at b (r .machines) qs (c .args .terms) (c .args .primary) (c .args .status) x) items in
+    ap (λ k. not (eqb x (c .args .primary)) && tried-at b k there (c .args .terms) (c .args .primary) (c .args .status) x) count
+    ∙ ap (λ qs. not (eqb x (c .args .primary)) && tried-at b (r .machines) qs (c .args .terms) (c .args .primary) (c .args .status) x) items in
     let first = standby-here test (c .args .primary) (c .args .turns .now) (c .loop-i .i) (c .loop-i-test .taken) (sym (took .test ∙ same)) in
     record { chosen = sym (c .loop-i .inv .2 ∙ first); jobs = took .jobs ∙ ap (with-job (placement-of (c .args .terms) (c .args .primary) x (c .args .status))) items; machines = took .machines ∙ count }
 
@@ -38,8 +38,8 @@ loop-i-again g c =
     let count = c .loop-i .inv .1 in
     let there = vec-items (c .loop-i .roster .placements) in
     let same =
-        ap (λ k. not (eqb x (c .args .primary)) && tried-at b k there (c .args .terms) (c .args .primary) (c .args .status) x) count
-        ∙ ap (λ qs. not (eqb x (c .args .primary)) && tried-at b (r .machines) qs (c .args .terms) (c .args .primary) (c .args .status) x) items in
+    ap (λ k. not (eqb x (c .args .primary)) && tried-at b k there (c .args .terms) (c .args .primary) (c .args .status) x) count
+    ∙ ap (λ qs. not (eqb x (c .args .primary)) && tried-at b (r .machines) qs (c .args .terms) (c .args .primary) (c .args .status) x) items in
     let more = standby-more test (c .args .primary) (c .args .turns .now) (c .loop-i .i) (c .loop-i-test .taken) (sym (took .test ∙ same)) in
     (took .jobs ∙ items, took .machines ∙ count, c .loop-i .inv .2 ∙ more)
 

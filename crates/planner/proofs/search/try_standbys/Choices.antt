@@ -10,4 +10,4 @@ Inv-loop-i g l =
     (vec-items (l .roster .placements) ≡ vec-items (l .entry .roster .placements))
     × (l .roster .machines ≡ l .entry .roster .machines)
     × (first-standby (tried-at (g .R·Precedence .before (l .rule)) (l .entry .roster .machines) (vec-items (l .entry .roster .placements)) (l .terms) (l .primary) (l .status)) (l .primary) (l .turns)
-      ≡ first-standby (tried-at (g .R·Precedence .before (l .rule)) (l .entry .roster .machines) (vec-items (l .entry .roster .placements)) (l .terms) (l .primary) (l .status)) (l .primary) (drop (l .i) (l .turns)))
+    ≡ first-standby (tried-at (g .R·Precedence .before (l .rule)) (l .entry .roster .machines) (vec-items (l .entry .roster .placements)) (l .terms) (l .primary) (l .status)) (l .primary) (drop (l .i) (l .turns)))
