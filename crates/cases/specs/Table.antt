@@ -4,8 +4,10 @@ use mathlib.Core.List.{List, [], _∷_}
 use Rattle.std.specs.declared.option.Option.the-variants.{Some, None}
 use Rattle.rack.specs.declared.placement.Status.the-variants.{Passive, Active}
 use Rattle.rack.specs.Day.{stops}
-use Rattle.cases.specs.Rows.{Row, judged, tested, quiet-is, lost-is, standby-is, tested-short, quiet-without-lateness, tested-no-ties, served, by-primary, by-standby, by-nobody, draft, holds}
-use Rattle.cases.specs.Plans.{job-10, job-11, both, job-21, late-plan, job-1, job-2, tight-plan, loose-plan, job-5, after-withdrawal, far-plan, tight-3, loose-3, day-6, stop-6, day-0, short-job, long-job}
+use Rattle.cases.specs.Rows.{Row, judged, tested, quiet-is, lost-is, standby-is, tested-short, quiet-without-lateness, tested-no-ties, served, draft, holds}
+use Rattle.cases.specs.Rows.{by-primary, by-standby, by-nobody}
+use Rattle.cases.specs.Plans.{job-10, job-11, both, job-21, late-plan, job-1, job-2, tight-plan, loose-plan, job-5, after-withdrawal, far-plan}
+use Rattle.cases.specs.Plans.{tight-3, loose-3, day-6, stop-6, day-0, short-job, long-job}
 
 abbrev pub all-hold : List Row → Bool
 all-hold [] = true
