@@ -1,9 +1,9 @@
 -- The kinds of rows, and when a row holds. All are under the deadline rule.
 use mathlib.Core.Path.{_≡_}
-use mathlib.Core.Bool.{Bool, true, false, cond, not}
+use mathlib.Core.Bool.{Bool, true, false, cond, not, _&&_}
 use mathlib.Core.List.{List, [], _∷_}
 use Prim.Native.Nat.{ℕ}
-use lib.Dec.{eqb}
+use lib.Dec.{eqb, leb}
 use Rattle.std.specs.declared.option.Option.{Option}
 use Rattle.std.specs.declared.option.Option.the-variants.{Some, None}
 use Rattle.terms.specs.declared.draft.Draft.{Draft}
@@ -12,10 +12,16 @@ use Rattle.terms.specs.Limits.{lawful}
 use Rattle.terms.specs.Making.{terms-of}
 use Rattle.precedence.specs.Deadlines.{deadline-before}
 use Rattle.precedence.specs.declared.deadline.Deadline.{Deadline}
+use Rattle.figures.specs.declared.copies.Role.{Role}
+use Rattle.figures.specs.declared.copies.Role.the-variants.{Primary, Standby}
 use Rattle.rack.specs.declared.placement.Status.{Status}
 use Rattle.rack.specs.declared.placement.Placement.{Placement}
+use Rattle.rack.specs.Plan.{number, machine}
+use Rattle.rack.specs.Day.{Day, due, work, Stop}
+use Rattle.rack.specs.Run.{Run, worked}
 use Rattle.rack.specs.Sets.{quiet-figure}
 use Rattle.rack.specs.Test.{loss-figure, standby-figure, passes}
+use Rattle.rack.specs.Played.{played}
 use Rattle.cases.specs.Shortcuts.{short-passes, no-lateness-figure, strictly-before}
 
 -- number, period, deadline, run, standby run, lateness
@@ -32,6 +38,16 @@ on t p b status = record { terms = t; primary = p; standby = b; status = status 
 abbrev pub by-deadline : Terms → Terms → Bool
 by-deadline a b = deadline-before (record {}) a b
 
+-- a day of late releases and long runs, each at its limit
+abbrev pub full-day : (ℕ → ℕ) → Day
+full-day offset = record { offset = offset; lateness = λ n k role. 1000; running = λ n k role. 1000 }
+
+-- which copy of a call-up finishes on time: the primary, only the standby, or none
+pub data Server : Type 0 where
+  by-primary : Server
+  by-standby : Server
+  by-nobody : Server
+
 pub data Row : Type 0 where
   -- the draft is lawful, or it is not
   judged : Draft → Bool → Row
@@ -47,6 +63,8 @@ pub data Row : Type 0 where
   tested-short : ℕ → List Placement → Bool → Row
   quiet-without-lateness : List Placement → Placement → Option ℕ → Row
   tested-no-ties : ℕ → List Placement → Bool → Row
+  -- who serves a call-up of a job in the run of a day of so many machines
+  served : ℕ → List Placement → Day → Stop → Placement → ℕ → Server → Row
 
 abbrev pub same-bool : Bool → Bool → Bool
 same-bool a b = cond a b (not b)
@@ -57,6 +75,15 @@ same-figure None (Some b) = false
 same-figure (Some a) None = false
 same-figure (Some a) (Some b) = eqb a b
 
+abbrev pub on-time : Day → Run → Role → Placement → ℕ → Bool
+on-time day run role p k =
+    leb (work day role (p .terms) k) (worked run (machine role p) (number p) k (due day (p .terms) k))
+
+abbrev pub serves : Server → Bool → Bool → Bool
+serves by-primary primary standby = primary
+serves by-standby primary standby = not primary && standby
+serves by-nobody primary standby = not primary && not standby
+
 abbrev pub holds : Row → Bool
 holds (judged d answer) = same-bool (lawful d) answer
 holds (tested m ps answer) = same-bool (passes by-deadline m ps) answer
@@ -66,3 +93,5 @@ holds (standby-is ps p answer) = same-figure (standby-figure by-deadline ps p) a
 holds (tested-short m ps answer) = same-bool (short-passes by-deadline m ps) answer
 holds (quiet-without-lateness ps p answer) = same-figure (no-lateness-figure by-deadline ps p) answer
 holds (tested-no-ties m ps answer) = same-bool (passes strictly-before m ps) answer
+holds (served m ps day stop p k server) =
+    serves server (on-time day (played by-deadline m ps day stop) Primary p k) (on-time day (played by-deadline m ps day stop) Standby p k)

@@ -3,8 +3,11 @@ use mathlib.Core.Bool.{Bool, true, false, _&&_}
 use mathlib.Core.List.{List, [], _∷_}
 use Rattle.std.specs.declared.option.Option.the-variants.{Some, None}
 use Rattle.rack.specs.declared.placement.Status.the-variants.{Passive, Active}
-use Rattle.cases.specs.Rows.{Row, judged, tested, quiet-is, lost-is, standby-is, tested-short, quiet-without-lateness, tested-no-ties, draft, holds}
+use Rattle.rack.specs.Day.{stops}
+use Rattle.cases.specs.Rows.{Row, judged, tested, quiet-is, lost-is, standby-is, tested-short, quiet-without-lateness, tested-no-ties, served, draft, holds}
+use Rattle.cases.specs.Rows.{by-primary, by-standby, by-nobody}
 use Rattle.cases.specs.Plans.{job-10, job-11, both, job-21, late-plan, job-1, job-2, tight-plan, loose-plan, job-5, after-withdrawal, far-plan}
+use Rattle.cases.specs.Plans.{tight-3, loose-3, day-6, stop-6, day-0, short-job, long-job}
 
 abbrev pub all-hold : List Row → Bool
 all-hold [] = true
@@ -54,4 +57,14 @@ worked-plans =
     ∷ tested 3 (after-withdrawal Passive) false
     -- the test looks at every machine
     ∷ tested 3 far-plan false
+    -- the day of plan 6: what the shortcut accepts misses a deadline, since machine 0 has begun an active standby's work
+    ∷ served 3 tight-plan day-6 stop-6 job-1 0 by-standby
+    ∷ served 3 tight-plan day-6 stop-6 job-2 0 by-primary
+    ∷ served 3 tight-plan day-6 stop-6 tight-3 0 by-nobody
+    ∷ served 3 loose-plan day-6 stop-6 loose-3 0 by-primary
+    -- a call-up that is finished exactly at the stop, and the next; one that is begun again at the stop ends late, and so does the next
+    ∷ served 2 (short-job ∷ []) day-0 (stops 1 1) short-job 0 by-primary
+    ∷ served 2 (short-job ∷ []) day-0 (stops 1 1) short-job 1 by-standby
+    ∷ served 2 (long-job ∷ []) day-0 (stops 0 1) long-job 0 by-nobody
+    ∷ served 2 (long-job ∷ []) day-0 (stops 0 1) long-job 1 by-nobody
     ∷ []

@@ -6,3 +6,4 @@ pub mod Plays
 pub mod Tested
 pub mod Parts
 pub mod Promise
+pub mod Keeping

@@ -5,3 +5,4 @@ pub mod Sets
 pub mod Test
 pub mod Covered
 pub mod Fewer
+pub mod Played
