@@ -4,14 +4,14 @@ use mathlib.Core.List.{List, [], _∷_, _++_, map}
 use Prim.Native.Nat.{ℕ, _+_, _*_, _≤_, _<_}
 use native.Mathlib.Omega.{arith}
 use lib.ListN.{length, take, drop, getD}
-use Rattle.std.proofs.shelf.Lists.{append-assoc, append-nil, drop-at, drop-drop, length-append, length-take-le, map-more, take-append-drop, take-at}
+use Rattle.std.proofs.shelf.Lists.{append-assoc, append-nil, drop-at, drop-drop, length-append, length-take-le, map-more, take-at}
 use Rattle.rack.specs.declared.placement.Placement.{Placement}
 use Rattle.planfile.specs.Format.{Rec, head, end, encode}
 use Rattle.planfile.specs.File.{encode-all}
 use Rattle.filewriter.specs.Written.{job-record, jobs-of, file-of, file-length, over}
 
 -- what is written after new bytes stands after them
-pub over-over :
+over-over :
     (at : ℕ) (s t d : List ℕ) (k : ℕ) → at ≤ length d → k ≡ at + length s → over k t (over at s d) ≡ over at (s ++ t) d
 over-over at s t d k fits is =
     let w = take at d ++ s in
@@ -35,7 +35,7 @@ encode-all-append (r ∷ xs) ys =
     ap (λ (v : List ℕ). encode r ++ v) (encode-all-append xs ys) ∙ sym (append-assoc (encode r) (encode-all xs) (encode-all ys))
 
 -- one job more
-pub jobs-more :
+jobs-more :
     (ps : List Placement) (i : ℕ) (p : Placement) → i < length ps → p ≡ getD ps i p →
     jobs-of (take (i + 1) ps) ≡ jobs-of (take i ps) ++ encode (job-record p)
 jobs-more ps i p h is =
@@ -44,16 +44,12 @@ jobs-more ps i p h is =
     ∙ encode-all-append (map job-record (take i ps)) (here ∷ [])
     ∙ ap (λ (v : List ℕ). jobs-of (take i ps) ++ v) (append-nil (encode here))
 
-pub length-jobs : (ps : List Placement) → length (jobs-of ps) ≡ 25 * length ps
+length-jobs : (ps : List Placement) → length (jobs-of ps) ≡ 25 * length ps
 length-jobs [] = refl
 length-jobs (p ∷ ps) = omega (arith, length-jobs ps)
 
 pub length-file : (code m : ℕ) (ps : List Placement) → length (file-of code m ps) ≡ file-length ps
 length-file code m ps = omega (arith, length-append (jobs-of ps) (encode end), length-jobs ps)
-
--- no job yet
-pub over-none : (d : List ℕ) → d ≡ over 3 (jobs-of []) d
-over-none d = sym (take-append-drop 3 d)
 
 -- one job's record written after those of the jobs before it
 pub over-more :

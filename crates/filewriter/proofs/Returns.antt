@@ -1,22 +1,20 @@
 -- A roster's file is read back as the same plan.
 use mathlib.Core.Path.{_≡_, refl, sym, ap, _∙_}
-use mathlib.Core.Bool.{true, not, _&&_}
+use mathlib.Core.Bool.{true, cond, not, _&&_}
 use mathlib.Core.List.{List, [], _∷_, _++_, map}
 use Prim.Native.Nat.{ℕ, _+_, _-_, _*_, _^_, _≤_, _<_}
 use native.Mathlib.Omega.{arith}
-use mathlib.Core.Bool.{cond}
 use lib.Dec.{eqb, ltb}
-use lib.ListN.{length}
 use Rattle.std.proofs.shelf.Tests.{and-from, and-parts, cond-true, lt-ltb, ltb-true, ne-eqb, not-from-false}
 use Rattle.std.specs.Options.{valueOr}
 use Rattle.std.specs.declared.option.Option.{Option}
 use Rattle.std.specs.declared.option.Option.the-variants.{Some, None}
 use Rattle.rack.specs.declared.placement.Placement.{Placement}
-use Rattle.rack.specs.Plan.{number, Placed}
+use Rattle.rack.specs.Plan.{number}
 use Rattle.rack.specs.Test.{all-of}
-use Rattle.pairs.specs.Pairs.{pair-machines, pair-number}
+use Rattle.pairs.specs.Pairs.{pair-number}
 use Rattle.pairs.proofs.Inverses.{inverse}
-use Rattle.planfile.specs.Format.{head, end, encode, bytes-2, bytes-4, Bytes}
+use Rattle.planfile.specs.Format.{end, encode, bytes-2, bytes-4, Bytes}
 use Rattle.planfile.specs.Jobs.{Places, status-byte}
 use Rattle.planfile.specs.File.{Between, notes-in, Rising-from, PlanFile}
 use Rattle.planfile.proofs.Places.{machines-are, small-status}

@@ -41,7 +41,7 @@ jobs-of ps = encode-all (map job-record ps)
 
 -- the file of m machines and these placements under the rule with this code, without notes
 abbrev pub file-of : ℕ → ℕ → List Placement → List ℕ
-file-of code m ps = encode (head code m) ++ (encode-all (map job-record ps) ++ encode end)
+file-of code m ps = encode (head code m) ++ (jobs-of ps ++ encode end)
 
 abbrev pub file-length : List Placement → ℕ
 file-length ps = 4 + 25 * length ps

@@ -7,6 +7,7 @@ ghost use lib.ListN.{drop, length};
 ghost use Rattle.std.specs.Of.Vec.{vec-items};
 ghost use Rattle.std.specs.declared.result.Result.the-variants.{Err, Ok};
 ghost use Rattle.terms.specs.declared.refusal.Refusal.the-variants.{Short};
+ghost use Rattle.planfile.specs.Format.{encode, end, head};
 ghost use Rattle.filewriter.specs.Written.{RoundTrip, file-length, file-of, jobs-of, over};
 use crate::bytes::job_bytes;
 use rack::Placement;
@@ -21,7 +22,15 @@ fn put(out: &mut [u8], at: usize, bytes: &[u8])
     out[at..at + bytes.len()].copy_from_slice(bytes);
 }
 
-// The placements' records, after the head's three bytes.
+// The file's first record.
+fn put_head(code: u8, machines: u8, out: &mut [u8])
+    requires { ⌜ 3 ≤ length (now out) ⌝ }
+    ensures { λ _. ⌜ now (out .exit) ≡ over 0 (encode (head code machines)) (now (out .entry)) ⌝ }
+{
+    put(out, 0, &[1, code, machines]);
+}
+
+// The placements' records, after the first.
 fn put_jobs(placements: &[Placement], out: &mut [u8])
     requires { ⌜ 3 + 25 * length (now placements) ≤ length (now out) ⌝ }
     ensures { λ _. ⌜ now (out .exit) ≡ over 3 (jobs-of (now (placements .entry))) (now (out .entry)) ⌝ }
@@ -31,29 +40,44 @@ fn put_jobs(placements: &[Placement], out: &mut [u8])
     }
 }
 
-// Head, jobs and end.
+// The file's last record, after those of so many placements.
+fn put_end(jobs: usize, out: &mut [u8])
+    requires { ⌜ 4 + 25 * jobs ≤ length (now out) ⌝ }
+    ensures { λ _. ⌜ now (out .exit) ≡ over (3 + 25 * jobs) (encode end) (now (out .entry)) ⌝ }
+{
+    put(out, 3 + 25 * jobs, &[9]);
+}
+
 fn put_all(code: u8, machines: u8, placements: &[Placement], out: &mut [u8])
     requires { ⌜ file-length (now placements) ≤ length (now out) ⌝ }
     ensures { λ _. ⌜ now (out .exit) ≡ file-of code machines (now (placements .entry)) ++ drop (file-length (now (placements .entry))) (now (out .entry)) ⌝ }
 {
-    put(out, 0, &[1, code, machines]);
+    put_head(code, machines, out);
     put_jobs(placements, out);
-    put(out, 3 + 25 * placements.len(), &[9]);
+    put_end(placements.len(), out);
 }
 
-// The roster's file, if there is room for it.
-fn put_roster(code: u8, roster: &Roster, out: &mut [u8]) -> Result<usize, Refusal>
-    ensures answer { λ r. ⌜ r ≡ cond (leb (file-length (vec-items (now (roster .entry) .placements))) (length (now (out .entry)))) (Ok (file-length (vec-items (now (roster .entry) .placements)))) (Err Short) ⌝ }
-    ensures bytes { λ _. ⌜ now (out .exit) ≡ cond (leb (file-length (vec-items (now (roster .entry) .placements))) (length (now (out .entry)))) (file-of code (now (roster .entry) .machines) (vec-items (now (roster .entry) .placements)) ++ drop (file-length (vec-items (now (roster .entry) .placements))) (now (out .entry))) (now (out .entry)) ⌝ }
+// The roster's file, where there is room for it.
+fn put_roster(code: u8, roster: &Roster, out: &mut [u8])
+    requires { ⌜ file-length (vec-items (now roster .placements)) ≤ length (now out) ⌝ }
+    ensures { λ _. ⌜ now (out .exit) ≡ file-of code (now (roster .entry) .machines) (vec-items (now (roster .entry) .placements)) ++ drop (file-length (vec-items (now (roster .entry) .placements))) (now (out .entry)) ⌝ }
+{
+    put_all(code, roster.machines(), roster.placements(), out);
+}
+
+// How many bytes that is: head and end have 3 and 1, each job 25.
+fn size_of(roster: &Roster) -> usize
+    ensures { λ r. ⌜ r ≡ file-length (vec-items (now (roster .entry) .placements)) ⌝ }
+{
+    4 + 25 * roster.placements().len()
+}
+
+// The same, with the law of what such a file holds.
+fn size_as_read(roster: &Roster) -> usize
+    ensures size { λ r. ⌜ r ≡ file-length (vec-items (now (roster .entry) .placements)) ⌝ }
     ensures round_trip { λ _. ⌜ RoundTrip ⌝ }
 {
-    let placements = roster.placements();
-    let size = 4 + 25 * placements.len();
-    if size > out.len() {
-        return Err(Refusal::Short);
-    }
-    put_all(code, roster.machines(), placements, out);
-    Ok(size)
+    size_of(roster)
 }
 
 // Writes the roster's plan file to the first bytes of `out`, and says how many they are. The later bytes stay;
@@ -63,5 +87,10 @@ pub fn write_roster(code: u8, roster: &Roster, out: &mut [u8]) -> Result<usize, 
     ensures bytes { λ _. ⌜ now (out .exit) ≡ cond (leb (file-length (vec-items (now (roster .entry) .placements))) (length (now (out .entry)))) (file-of code (now (roster .entry) .machines) (vec-items (now (roster .entry) .placements)) ++ drop (file-length (vec-items (now (roster .entry) .placements))) (now (out .entry))) (now (out .entry)) ⌝ }
     ensures round_trip { λ _. ⌜ RoundTrip ⌝ }
 {
-    put_roster(code, roster, out)
+    let size = size_as_read(roster);
+    if size > out.len() {
+        return Err(Refusal::Short);
+    }
+    put_roster(code, roster, out);
+    Ok(size)
 }
