@@ -1,6 +1,7 @@
 // One task from start to end, told step by step for support staff.
 mod longtable;
 mod machine;
+mod office;
 mod rack_plan;
 mod refusals;
 
@@ -15,5 +16,7 @@ fn main(rt: LibcRuntime) -> io::Result<()> {
     println!(rt, "")?;
     longtable::tell(&rt)?;
     println!(rt, "")?;
-    rack_plan::tell(&rt)
+    rack_plan::tell(&rt)?;
+    println!(rt, "")?;
+    office::tell(&rt)
 }
