@@ -1,14 +1,14 @@
 -- What the first choice that passes says: of the job, of the plan after it, and of the job that has none.
 use mathlib.Core.Path.{_≡_, refl, sym, ap, subst, _∙_}
 use mathlib.Core.Bool.{Bool, true, false, cond, not, _&&_}
-use mathlib.Core.List.{List, [], _∷_}
-use mathlib.Core.Logic.{_⊎_, inl, inr, ⊎-elim}
-use Prim.Native.Nat.{ℕ, _<_, _≤_}
+use mathlib.Core.List.{List}
+use mathlib.Core.Logic.{⊎-elim}
+use Prim.Native.Nat.{ℕ, _<_}
 use native.Mathlib.Omega.{arith}
 use lib.Dec.{ltb}
-use lib.ListN.{length, getD}
+use lib.ListN.{length}
 use Rattle.std.proofs.shelf.Lists.{getD-default}
-use Rattle.std.proofs.shelf.Tests.{and-from, and-parts, both-ways, cond-both, lt-ltb, ltb-true, not-from-false}
+use Rattle.std.proofs.shelf.Tests.{cond-both, lt-ltb, ltb-true, not-from-false}
 use Rattle.std.specs.Options.{isSome}
 use Rattle.std.specs.declared.option.Option.{Option}
 use Rattle.std.specs.declared.option.Option.the-variants.{Some, None}
@@ -19,13 +19,13 @@ use Rattle.terms.specs.declared.refusal.Refusal.{Refusal}
 use Rattle.terms.specs.declared.refusal.Refusal.the-variants.{NoPlace, Pin}
 use Rattle.rack.specs.declared.placement.Status.{Status}
 use Rattle.rack.specs.declared.placement.Placement.{Placement}
-use Rattle.rack.specs.Plan.{In, number, Placed}
+use Rattle.rack.specs.Plan.{In, number}
 use Rattle.rack.specs.Test.{Passes, passes}
 use Rattle.rack.proofs.Tested.{in-at, at-in, passes-means, passes-true}
 use Rattle.rack.proofs.Parts.{fewer-pass}
 use Rattle.orders.specs.Turns.{EachOnce}
 use Rattle.orders.proofs.Turns.{every-turn}
-use Rattle.roster.specs.Changes.{find, with-job, addable}
+use Rattle.roster.specs.Changes.{find, with-job}
 use Rattle.roster.specs.Rising.{placed, rising}
 use Rattle.roster.proofs.Jobs.{in-with-job, find-none}
 use Rattle.roster.proofs.Ordered.{rising-once, rising-with-job}

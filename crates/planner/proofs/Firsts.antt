@@ -8,7 +8,7 @@ use native.Mathlib.Omega.{arith}
 use lib.Dec.{eqb}
 use lib.ListN.{length, getD, drop}
 use Rattle.std.proofs.shelf.Lists.{at-drop-more, at-drop-all}
-use Rattle.std.proofs.shelf.Tests.{cases-bool, cases-eq, and-from, and-parts, and-left, both-ways, cond-both, cond-true, cond-false, eq-eqb, ne-eqb, eqb-false, not-true, not-from-true, not-from-false}
+use Rattle.std.proofs.shelf.Tests.{cases-eq, and-from, and-parts, and-left, both-ways, cond-both, cond-true, cond-false, eq-eqb, ne-eqb, eqb-false, not-true, not-from-true, not-from-false}
 use Rattle.std.specs.declared.option.Option.{Option}
 use Rattle.std.specs.declared.option.Option.the-variants.{Some, None}
 use Rattle.rack.specs.declared.placement.Status.{Status}

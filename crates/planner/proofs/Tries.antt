@@ -1,15 +1,13 @@
 -- Putting a job in and taking it out again changes nothing.
 use mathlib.Core.Path.{_≡_, refl, sym, ap, _∙_}
-use mathlib.Core.Bool.{Bool, true, false, cond, not, _&&_}
+use mathlib.Core.Bool.{Bool, true, false, not, _&&_}
 use mathlib.Core.List.{List, [], _∷_}
 use mathlib.Core.Logic.{⊎-elim}
 use Prim.Native.Nat.{ℕ}
-use native.Mathlib.Omega.{arith}
 use lib.Dec.{eqb, ltb}
-use Rattle.std.proofs.shelf.Tests.{cases-bool, cases-eq, and-parts, both-ways, eq-eqb, ne-eqb, cond-true, cond-false, not-true, eqb-true}
+use Rattle.std.proofs.shelf.Tests.{cases-bool, cases-eq, and-parts, both-ways, eq-eqb, ne-eqb, cond-true, cond-false, not-true}
 use Rattle.std.specs.Options.{isSome}
-use Rattle.std.specs.declared.option.Option.{Option}
-use Rattle.std.specs.declared.option.Option.the-variants.{Some, None}
+use Rattle.std.specs.declared.option.Option.the-variants.{Some}
 use Rattle.rack.specs.declared.placement.Placement.{Placement}
 use Rattle.rack.specs.Plan.{number}
 use Rattle.terms.specs.declared.terms.Terms.{Terms}

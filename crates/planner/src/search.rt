@@ -5,7 +5,7 @@ ghost use Rattle.std.specs.Of.Vec.{vec-items};
 ghost use Rattle.std.specs.declared.option.Option.the-variants.{None};
 ghost use Rattle.planner.specs.Choices.{first-standby, first-with};
 ghost use Rattle.planner.specs.Trying.{choice-jobs, jobs-at, tried, tried-at, tried-first};
-ghost use Rattle.roster.specs.Changes.{with-job};
+ghost use Rattle.roster.specs.Changes.{with-job, without};
 use plantest::Workspace;
 use plantest::roster_passes;
 use precedence::Precedence;
@@ -13,6 +13,14 @@ use rack::Placement;
 use rack::Status;
 use roster::Roster;
 use terms::Terms;
+
+// Takes a job out again.
+fn take_back(roster: &mut Roster, p: &Placement)
+    ensures jobs { λ _. ⌜ vec-items (now (roster .exit) .placements) ≡ without (now (p .entry) .terms .number) (vec-items (now (roster .entry) .placements)) ⌝ }
+    ensures machines { λ _. ⌜ now (roster .exit) .machines ≡ now (roster .entry) .machines ⌝ }
+{
+    let _ = roster.remove(p.terms.number());
+}
 
 // Puts the job in, and takes it out again unless the plan then passes.
 pub(crate) fn try_choice<R: Precedence>(
@@ -31,7 +39,7 @@ pub(crate) fn try_choice<R: Precedence>(
     if roster_passes(rule, roster, space) {
         return true;
     }
-    let _ = roster.remove(p.terms.number());
+    take_back(roster, &p);
     false
 }
 

@@ -1,4 +1,4 @@
-use mathlib.Core.Path.{_≡_, sym, ap, _∙_}
+use mathlib.Core.Path.{sym, ap, _∙_}
 use Rattle.std.specs.Of.Vec.{vec-items}
 use Rattle.rack.specs.Plan.{number}
 use Rattle.roster.specs.Changes.{without}
@@ -16,9 +16,8 @@ returns g c =
     record {
       test = sym (tried-fails b m (after .machines) ps (vec-items (after .placements)) p (put .machines) (put .items) (sym (c .if-roster-passes .ensures tt)));
       jobs =
-          c .remove .ensures .items
-          ∙ ap (λ n. without n (vec-items (after .placements))) (c .number .ensures)
+          c .take-back .ensures .jobs
           ∙ ap (without (number p)) (put .items)
           ∙ in-and-out p ps (addable-new m ps p (sym (put .test)));
-      machines = c .remove .ensures .machines ∙ put .machines;
+      machines = c .take-back .ensures .machines ∙ put .machines;
     }

@@ -1,7 +1,7 @@
-use mathlib.Core.Path.{_≡_, sym, ap, _∙_}
-use Prim.Native.Nat.{_≤_, _<_}
+use mathlib.Core.Path.{_≡_, _∙_}
+use Prim.Native.Nat.{_<_}
 use native.Mathlib.Omega.{arith}
-use lib.ListN.{length, take, getD}
+use lib.ListN.{length}
 use Rattle.std.proofs.shelf.Lists.{length-set, take-more, take-more-set, take-all}
 use Rattle.orders.proofs.Turns.{turn-told}
 use Rattle.planner.proofs.turns.turns_of.Needs as need
