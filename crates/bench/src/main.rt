@@ -1,5 +1,6 @@
 // Measures the product on a full rack. `bench 1` runs each measure once and prints no time, for the gate;
 // `bench N` runs it N times and prints the seconds.
+mod filling;
 mod fulltest;
 
 use std::env;
@@ -14,5 +15,6 @@ fn rounds(rt: &LibcRuntime) -> Result<u32, AnyError> {
 
 fn main(rt: LibcRuntime) -> Result<(), AnyError> {
     let times = rounds(&rt)?;
-    fulltest::tell(&rt, times)
+    fulltest::tell(&rt, times)?;
+    filling::tell(&rt, times)
 }

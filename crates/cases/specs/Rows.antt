@@ -22,6 +22,14 @@ use Rattle.rack.specs.Run.{Run, worked}
 use Rattle.rack.specs.Sets.{quiet-figure}
 use Rattle.rack.specs.Test.{loss-figure, standby-figure, passes}
 use Rattle.rack.specs.Played.{played}
+use Rattle.std.specs.declared.result.Result.{Result}
+use Rattle.std.specs.declared.result.Result.the-variants.{Ok, Err}
+use Rattle.terms.specs.declared.refusal.Refusal.{Refusal}
+use Rattle.terms.specs.Refusals.{number-of}
+use Rattle.orders.specs.Ascending.{ascending-turns}
+use Rattle.planner.specs.Choices.{Choice}
+use Rattle.planner.specs.Answers.{status-number, place-answer, pin-answer, withdraw-answer, open-answer}
+use Rattle.planner.specs.Figures.{figures-answer}
 use Rattle.cases.specs.Shortcuts.{short-passes, no-lateness-figure, strictly-before}
 
 -- number, period, deadline, run, standby run, lateness
@@ -48,7 +56,35 @@ pub data Server : Type 0 where
   by-standby : Server
   by-nobody : Server
 
+-- an answer as numbers: the refusal or 0, and what else is answered
+abbrev pub place-told : Result Choice Refusal → ℕ × ℕ × ℕ × ℕ
+place-told (Err e) = (number-of e, 0, 0, 0)
+place-told (Ok c) = (0, c .0, c .1, status-number (c .2))
+
+abbrev pub done-told : Result (Unit {0}) Refusal → ℕ
+done-told (Err e) = number-of e
+done-told (Ok u) = 0
+
+abbrev pub figures-told : Result (ℕ × ℕ × ℕ) Refusal → ℕ × ℕ × ℕ × ℕ
+figures-told (Err e) = (number-of e, 0, 0, 0)
+figures-told (Ok f) = (0, f .0, f .1, f .2)
+
+abbrev pub same-four : ℕ × ℕ × ℕ × ℕ → ℕ × ℕ × ℕ × ℕ → Bool
+same-four a b = eqb (a .0) (b .0) && (eqb (a .1) (b .1) && (eqb (a .2) (b .2) && eqb (a .3) (b .3)))
+
+-- the machines in ascending order
+abbrev pub upwards : ℕ → List ℕ → List ℕ
+upwards m loads = ascending-turns (record {}) m loads
+
 pub data Row : Type 0 where
+  -- what place answers on so many machines beside these jobs
+  places : ℕ → List Placement → Draft → ℕ × ℕ × ℕ × ℕ → Row
+  -- what pin answers to two machines and a status
+  pins : ℕ → List Placement → Draft → ℕ → ℕ → ℕ → ℕ → Row
+  -- what figures, withdraw and open answer
+  figures-are : ℕ → List Placement → ℕ → ℕ × ℕ × ℕ × ℕ → Row
+  withdraws : List Placement → ℕ → ℕ → Row
+  opens : ℕ → ℕ → Row
   -- the draft is lawful, or it is not
   judged : Draft → Bool → Row
   -- the plan of so many machines passes, or it does not
@@ -85,6 +121,11 @@ serves by-standby primary standby = not primary && standby
 serves by-nobody primary standby = not primary && not standby
 
 abbrev pub holds : Row → Bool
+holds (places m ps d answer) = same-four (place-told (place-answer by-deadline upwards m ps d)) answer
+holds (pins m ps d p b status answer) = eqb (done-told (pin-answer by-deadline m ps d p b status)) answer
+holds (figures-are m ps n answer) = same-four (figures-told (figures-answer by-deadline m ps n)) answer
+holds (withdraws ps n answer) = eqb (done-told (withdraw-answer ps n)) answer
+holds (opens m answer) = eqb (done-told (open-answer m)) answer
 holds (judged d answer) = same-bool (lawful d) answer
 holds (tested m ps answer) = same-bool (passes by-deadline m ps) answer
 holds (quiet-is ps p answer) = same-figure (quiet-figure by-deadline ps p) answer

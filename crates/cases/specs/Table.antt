@@ -4,7 +4,7 @@ use mathlib.Core.List.{List, [], _∷_}
 use Rattle.std.specs.declared.option.Option.the-variants.{Some, None}
 use Rattle.rack.specs.declared.placement.Status.the-variants.{Passive, Active}
 use Rattle.rack.specs.Day.{stops}
-use Rattle.cases.specs.Rows.{Row, judged, tested, quiet-is, lost-is, standby-is, tested-short, quiet-without-lateness, tested-no-ties, served, draft, holds}
+use Rattle.cases.specs.Rows.{Row, places, pins, figures-are, withdraws, opens, judged, tested, quiet-is, lost-is, standby-is, tested-short, quiet-without-lateness, tested-no-ties, served, draft, holds}
 use Rattle.cases.specs.Rows.{by-primary, by-standby, by-nobody}
 use Rattle.cases.specs.Plans.{job-10, job-11, both, job-21, late-plan, job-1, job-2, tight-plan, loose-plan, job-5, after-withdrawal, far-plan}
 use Rattle.cases.specs.Plans.{tight-3, loose-3, day-6, stop-6, day-0, short-job, long-job}
@@ -67,4 +67,26 @@ worked-plans =
     ∷ served 2 (short-job ∷ []) day-0 (stops 1 1) short-job 1 by-standby
     ∷ served 2 (long-job ∷ []) day-0 (stops 0 1) long-job 0 by-nobody
     ∷ served 2 (long-job ∷ []) day-0 (stops 0 1) long-job 1 by-nobody
+    -- 2 to 4 as calls: place, figures, and a refusal for want of machines
+    ∷ places 2 [] (draft 10 10 10 4 4 0) (0, 0, 1, 0)
+    ∷ figures-are 2 (job-10 ∷ []) 10 (0, 4, 4, 8)
+    ∷ places 2 (job-10 ∷ []) (draft 11 10 10 4 4 0) (5, 0, 0, 0)
+    ∷ places 3 (job-10 ∷ []) (draft 11 10 10 4 4 0) (0, 0, 2, 1)
+    ∷ figures-are 3 (both (job-11 0 2 Active)) 11 (0, 8, 8, 4)
+    -- 6 as calls: the third pin is refused with deadline 10 and kept with 11
+    ∷ pins 3 [] (draft 1 20 8 2 4 0) 2 0 0 0
+    ∷ pins 3 (job-1 ∷ []) (draft 2 20 9 4 4 0) 1 0 1 0
+    ∷ pins 3 (job-1 ∷ job-2 ∷ []) (draft 3 20 10 3 5 0) 0 2 1 7
+    ∷ pins 3 (job-1 ∷ job-2 ∷ []) (draft 3 20 11 3 5 0) 0 2 1 0
+    -- refusals by number
+    ∷ opens 17 1
+    ∷ opens 258 1
+    ∷ places 2 [] (draft 1 10 11 1 1 0) (2, 0, 0, 0)
+    ∷ places 2 (job-10 ∷ []) (draft 10 10 10 4 4 0) (3, 0, 0, 0)
+    ∷ withdraws [] 7 6
+    ∷ withdraws (job-10 ∷ []) 65546 6
+    ∷ withdraws (job-10 ∷ []) 10 0
+    ∷ pins 2 [] (draft 1 10 10 1 1 0) 1 1 0 7
+    ∷ pins 2 [] (draft 1 10 10 1 1 0) 0 2 0 7
+    ∷ pins 2 [] (draft 1 10 10 1 1 0) 0 1 2 7
     ∷ []

@@ -9,5 +9,5 @@ pub fn worked_plans_hold() -> usize
     ensures rows { λ r. ⌜ r ≡ length worked-plans ⌝ }
     ensures hold { λ _. ⌜ all-hold worked-plans ≡ true ⌝ }
 {
-    39
+    58
 }
