@@ -9,8 +9,8 @@ use Rattle.calls.specs.Carrying.{Right, Holds}
 use Rattle.calls.proofs.More.{after_more, answers_more, holds_more, stored, later_stay}
 use Rattle.calls.proofs.carry.carry_all.Goals as goal
 
-pub carry-next-requires : goal.carry-next-requires
-carry-next-requires g c =
+pub carry_next-requires : goal.carry_next-requires
+carry_next-requires g c =
     let l = c.loop-i in
     subst (λ (z : Terms → Terms → Bool). Safe z l.plan.roster.machines (vec_items l.plan.roster.placements))
     (sym (ap (λ z. g.R.Precedence.before z) l.invariant.0)) l.invariant.6
@@ -31,12 +31,12 @@ loop-i-preserved g c =
     let b1 = g.R.Precedence.before l.plan.rule in
     let t1 = g.O.SearchOrder.turns l.plan.order in
     let s1 = state l.plan.roster.machines (vec_items l.plan.roster.placements) l.out in
-    let s2 = state c.carry-next.new.plan.roster.machines (vec_items c.carry-next.new.plan.roster.placements) c.carry-next.new.out in
+    let s2 = state c.carry_next.new.plan.roster.machines (vec_items c.carry_next.new.plan.roster.placements) c.carry_next.new.out in
     let eb : b1 ≡ b = ap (λ z. g.R.Precedence.before z) l.invariant.0 in
     let et : t1 ≡ t = ap (λ z. g.O.SearchOrder.turns z) l.invariant.1 in
     let es : s1 ≡ after_all b t code s (take i cs) = l.invariant.2 in
-    let one = c.carry-next.ensures in
-    let said : c.carry-next.result ≡ answer_of b t code (after_all b t code s (take i cs)) x =
+    let one = c.carry_next.ensures in
+    let said : c.carry_next.result ≡ answer_of b t code (after_all b t code s (take i cs)) x =
     one.answer ∙ ap (λ z. answer_of z t1 code s1 x) eb ∙ ap (λ z. answer_of b z code s1 x) et ∙ ap (λ z. answer_of b t code z x) es in
     let on : s2 ≡ after b t code (after_all b t code s (take i cs)) x =
     one.after ∙ ap (λ z. after z t1 code s1 x) eb ∙ ap (λ z. after b z code s1 x) et ∙ ap (λ z. after b t code z x) es in
@@ -50,10 +50,10 @@ loop-i-preserved g c =
       one.same.0 ∙ l.invariant.0,
       one.same.1 ∙ l.invariant.1,
       on ∙ sym (after_more b t code s cs i d x lt refl),
-      stored l.answers i c.carry-next.result room ∙ ap (λ z. z ++ c.carry-next.result ∷ []) l.invariant.3
+      stored l.answers i c.carry_next.result room ∙ ap (λ z. z ++ c.carry_next.result ∷ []) l.invariant.3
           ∙ ap (λ z. answers_of b t code s (take i cs) ++ z ∷ []) said ∙ sym (answers_more b t code s cs i d x lt refl),
-      later_stay l.answers c.args.answers.now i c.carry-next.result l.invariant.4,
-      length-set l.answers i c.carry-next.result ∙ l.invariant.5,
+      later_stay l.answers c.args.answers.now i c.carry_next.result l.invariant.4,
+      length-set l.answers i c.carry_next.result ∙ l.invariant.5,
       still,
       holds_more b t code s cs i d x lt refl l.invariant.7 here s2 on still,
     )

@@ -6,9 +6,9 @@ pub returns : goal.returns
 returns g c =
     let rule = c.args.plan.now.rule in
     let b = g.R.Precedence.before rule in
-    let new = c.carry-one.new.plan.roster in
+    let new = c.carry_one.new.plan.roster in
     let ps = vec_items new.placements in
-    let own = c.carry-one.ensures in
+    let own = c.carry_one.ensures in
     let pass = own.keeps c.requires.passes in
     record {
       answer = own.answer;

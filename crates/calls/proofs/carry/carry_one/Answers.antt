@@ -24,7 +24,7 @@ returns-in-Place g c =
     let own = c.place.ensures in
     let is = c.in-Place.is in
     record {
-      answer = c.say-placed.ensures ∙ ap said_placed own.answer ∙ ap (answer_of b t code s) (sym is);
+      answer = c.say_placed.ensures ∙ ap said_placed own.answer ∙ ap (answer_of b t code s) (sym is);
       after =
           ap (λ n. state n last out) own.same.2 ∙ ap (λ qs. state m qs out) own.jobs ∙ ap (after b t code s) (sym is);
       same = (own.same.0, own.same.1);
@@ -48,7 +48,7 @@ returns-in-Pin g c =
     let own = c.pin.ensures in
     let is = c.in-Pin.is in
     record {
-      answer = c.say-done.ensures ∙ ap said_done own.answer ∙ ap (answer_of b t code s) (sym is);
+      answer = c.say_done.ensures ∙ ap said_done own.answer ∙ ap (answer_of b t code s) (sym is);
       after =
           ap (λ n. state n last out) own.same.2 ∙ ap (λ qs. state m qs out) own.jobs ∙ ap (after b t code s) (sym is);
       same = (own.same.0, own.same.1);
@@ -70,7 +70,7 @@ returns-in-Withdraw g c =
     let own = c.withdraw.ensures in
     let is = c.in-Withdraw.is in
     record {
-      answer = c.say-done-in-Withdraw.ensures ∙ ap said_done own.answer ∙ ap (answer_of b t code s) (sym is);
+      answer = c.say_done-in-Withdraw.ensures ∙ ap said_done own.answer ∙ ap (answer_of b t code s) (sym is);
       after =
           ap (λ n. state n last out) own.same.2 ∙ ap (λ qs. state m qs out) own.jobs ∙ ap (after b t code s) (sym is);
       same = (own.same.0, own.same.1);
@@ -89,7 +89,7 @@ returns-in-Figures g c =
     let own = c.figures.ensures in
     let is = c.in-Figures.is in
     record {
-      answer = c.say-figures.ensures ∙ ap said_figures own.answer ∙ ap (answer_of b t code s) (sym is);
+      answer = c.say_figures.ensures ∙ ap said_figures own.answer ∙ ap (answer_of b t code s) (sym is);
       after =
           ap (λ (x : Roster). state x.machines (vec_items x.placements) out) own.same.2 ∙ ap (after b t code s) (sym is);
       same = (own.same.0, own.same.1);

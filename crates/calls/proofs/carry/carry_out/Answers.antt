@@ -7,8 +7,8 @@ use Rattle.calls.specs.Carrying.{Holds}
 use Rattle.calls.proofs.Promised.{counted, begun, opened_fresh, promised}
 use Rattle.calls.proofs.carry.carry_out.Goals as goal
 
-pub carry-all-requires : goal.carry-all-requires
-carry-all-requires g c =
+pub carry_all-requires : goal.carry_all-requires
+carry_all-requires g c =
     let own = c.begin.ensures in
     let m = c.args.machines in
     let r = c.begin.new.plan.roster in
@@ -33,7 +33,7 @@ returns g c =
     let t1 = g.O.SearchOrder.turns plan.order in
     let s1 = state plan.roster.machines (vec_items plan.roster.placements) out in
     let own = c.begin.ensures in
-    let all = c.carry-all.ensures in
+    let all = c.carry_all.ensures in
     let count : is_count m ≡ true = counted m c.if-machines-lt2.false c.if-machines-gt16.false in
     let eb : b1 ≡ b = ap (λ z. g.R.Precedence.before z) own.same.0 in
     let et : t1 ≡ t = ap (λ z. g.O.SearchOrder.turns z) own.same.1 in

@@ -8,8 +8,8 @@ work_small c =
     let r : c.from.result ≤ 1000000 = omega arith in
     mul-le-mul r q
 
-pub overflow-mul-result : goal.overflow-mul-result
-overflow-mul-result c = let small = work_small c in search rules
+pub overflow_mul-result : goal.overflow_mul-result
+overflow_mul-result c = let small = work_small c in search rules
 
 pub returns : goal.returns
 returns c = record { value = cc; small = work_small c }

@@ -8,6 +8,6 @@ returns c =
     let new = c.args.bytes.now in
     let old = c.args.out.now in
     let size : at + length new - at ≡ length new = omega arith in
-    ap (λ (v : List ℕ). take at old ++ (v ++ drop (at + length new - at) (drop at old))) c.copy-from-slice.ensures.after
+    ap (λ (v : List ℕ). take at old ++ (v ++ drop (at + length new - at) (drop at old))) c.copy_from_slice.ensures.after
     ∙ ap (λ (n : ℕ). take at old ++ (new ++ drop n (drop at old))) size
     ∙ ap (λ (v : List ℕ). take at old ++ (new ++ v)) (drop-drop (length new) at old)

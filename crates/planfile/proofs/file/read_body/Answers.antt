@@ -50,8 +50,8 @@ loop-record-preserved-in-Job c =
     let p = c.in-Some-admit.placement in
     let in_it : admitted c.args.m last jobs it.draft it.pair it.status ≡ Some p =
     admitted_at c.args.m last c.len.result jobs it.draft it.pair it.status (Some p) c.len.ensures c.in-Some-admit.ensures in
-    let pushed = c.push-reserved.ensures in (
-      seen_job _ items (vec_items c.push-reserved.new.self) c.args.m last jobs (vec_len c.push-reserved.new.self) notes rest
+    let pushed = c.push_reserved.ensures in (
+      seen_job _ items (vec_items c.push_reserved.new.self) c.args.m last jobs (vec_len c.push_reserved.new.self) notes rest
           it.draft it.pair it.status p
           (seen _ items c.args.m last jobs notes (ahead c.loop-record.reader) rest (rec_of c.in-Some.record) (job it.draft it.pair it.status)
           c.loop-record.invariant.0 c.in-Some.ensures.reads (ap rec_of c.in-Job.is))
@@ -100,7 +100,7 @@ returns-in-End c =
       holds =
           seen _ items c.args.m last jobs notes (ahead c.loop-record.reader) rest (rec_of c.in-Some.record) end
           c.loop-record.invariant.0 c.in-Some.ensures.reads (ap rec_of c.in-End.is)
-          ∙ at_last (eqb (length rest) 0) items ∙ ap (λ (b : Bool). then_some b items) (sym c.at-end.ensures);
+          ∙ at_last (eqb (length rest) 0) items ∙ ap (λ (b : Bool). then_some b items) (sym c.at_end.ensures);
       roomy = c.loop-record.invariant.1;
     }
 

@@ -5,5 +5,5 @@ use Rattle.planner.proofs.admit.admit.Goals as goal
 
 pub returns-in-Ok : goal.returns-in-Ok
 returns-in-Ok c =
-    c.admit-terms.ensures
+    c.admit_terms.ensures
     ∙ ap (admitted_terms (vec_items c.args.roster.now.placements)) (sym (drafted_some c.args.draft c.in-Ok.terms (sym c.in-Ok.ensures.test) c.in-Ok.ensures.cases.1))

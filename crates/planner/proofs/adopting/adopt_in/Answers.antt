@@ -8,12 +8,12 @@ returns g c =
     let code = g.R.Precedence.code in
     let xs = c.args.bytes.now in
     let old = c.args.roster.now in
-    let new = c.take-in.new.roster in
-    let own = c.take-in.ensures in
+    let new = c.take_in.new.roster in
+    let own = c.take_in.ensures in
     record {
       answer = own.answer;
       plan = own.plan;
       keeps = own.keeps;
       means =
-          adopt_means b code xs (all_bytes xs c.type-inv.bytes) c.take-in.result (old.machines, vec_items old.placements) (new.machines, vec_items new.placements) own.answer own.plan;
+          adopt_means b code xs (all_bytes xs c.type-inv.bytes) c.take_in.result (old.machines, vec_items old.placements) (new.machines, vec_items new.placements) own.answer own.plan;
     }

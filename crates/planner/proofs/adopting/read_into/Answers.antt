@@ -7,10 +7,10 @@ use Rattle.planner.proofs.adopting.read_into.Goals as goal
 pub returns-in-Some : goal.returns-in-Some
 returns-in-Some c =
     let m = c.in-Some.machines in
-    let ps = vec_items c.read-plan.new.out in
+    let ps = vec_items c.read_plan.new.out in
     let read = c.in-Ok.ensures in
     let held = read.plan ∙ ap (λ o. with_placements o ps) c.in-Some.is in
     let old = c.args.spare.now in
-    held_in c.args.code c.args.bytes.now c.take-over.result m c.take-over.new.self.machines old.machines ps (vec_items c.take-over.new.self.placements) (vec_items old.placements)
-    (c.take-over.ensures.test read.roomy ∙ held_holdable c.args.code c.args.bytes.now m ps held)
-    held c.take-over.ensures.machines c.take-over.ensures.items
+    held_in c.args.code c.args.bytes.now c.take_over.result m c.take_over.new.self.machines old.machines ps (vec_items c.take_over.new.self.placements) (vec_items old.placements)
+    (c.take_over.ensures.test read.roomy ∙ held_holdable c.args.code c.args.bytes.now m ps held)
+    held c.take_over.ensures.machines c.take_over.ensures.items

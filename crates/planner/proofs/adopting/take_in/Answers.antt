@@ -11,9 +11,9 @@ returns g c =
     let b = g.R.Precedence.before c.args.rule.now in
     let code = g.R.Precedence.code in
     let xs = c.args.bytes.now in
-    let file = c.read-into.new.spare in
-    let held = ap (λ k. plan_of k xs) (sym c.its-code.ensures) ∙ c.if-not-read-into.ensures in
-    let pass = sym c.if-not-file-passes.ensures in
+    let file = c.read_into.new.spare in
+    let held = ap (λ k. plan_of k xs) (sym c.its_code.ensures) ∙ c.if-not-read_into.ensures in
+    let pass = sym c.if-not-file_passes.ensures in
     let old = c.args.roster.now in
     record {
       answer = sym (adopt_done b code xs file.machines (vec_items file.placements) held pass);

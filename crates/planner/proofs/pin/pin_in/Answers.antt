@@ -11,8 +11,8 @@ use Rattle.planner.specs.Answers.{done, jobs_with, pinned, pin_admitted, pin_cho
 use Rattle.planner.proofs.Choosing.{admitted_free, pinned_is}
 use Rattle.planner.proofs.pin.pin_in.Goals as goal
 
-pub returns-then-try-at : goal.returns-then-try-at
-returns-then-try-at g c =
+pub returns-then-try_at : goal.returns-then-try_at
+returns-then-try_at g c =
     let b = g.R.Precedence.before c.args.rule.now in
     let r = c.args.roster.now in
     let m = r.machines in
@@ -24,7 +24,7 @@ returns-then-try-at g c =
     let status = c.in-Some.status in
     let ad = c.in-Ok.ensures in
     let st = c.in-Some.ensures in
-    let took = c.if-try-at.ensures in
+    let took = c.if-try_at.ensures in
     let free = admitted_free ps (drafted c.args.draft) t ad in
     let choice =
     ap (pin_admitted b m ps p s n) (sym ad) ∙ ap (pinned b m ps t p s) (sym st) ∙ pinned_is b m ps t free.0 free.1 p s status
@@ -53,7 +53,7 @@ returns g c =
     let status = c.in-Some.status in
     let ad = c.in-Ok.ensures in
     let st = c.in-Some.ensures in
-    let took = c.if-try-at.ensures in
+    let took = c.if-try_at.ensures in
     let free = admitted_free ps (drafted c.args.draft) t ad in
     let choice =
     ap (pin_admitted b m ps p s n) (sym ad) ∙ ap (pinned b m ps t p s) (sym st) ∙ pinned_is b m ps t free.0 free.1 p s status

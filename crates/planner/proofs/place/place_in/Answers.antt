@@ -23,24 +23,24 @@ returns g c =
     let ad = c.in-Ok.ensures in
     let free = admitted_free ps (drafted d) t ad in
     let each = g.met.O.SearchOrder.permutes c.args.order.now m (loads ps) r.sized.0 r.sized.1 refl in
-    let first = c.try-in-turn.ensures.chosen ∙ ap (λ l. tried_first b m ps t (turns m l)) c.loads-loads.ensures ∙ tried_same b m ps t free.0 free.1 (turns m (loads ps)) each in
-    let told = c.chosen-of.ensures ∙ ap chosen first in
+    let first = c.try_in_turn.ensures.chosen ∙ ap (λ l. tried_first b m ps t (turns m l)) c.loads-loads.ensures ∙ tried_same b m ps t free.0 free.1 (turns m (loads ps)) each in
+    let told = c.chosen_of.ensures ∙ ap chosen first in
     let answer = told ∙ ap (place_admitted b turns m ps) ad in
     record {
       answer = answer;
       jobs =
-          c.try-in-turn.ensures.jobs ∙ jobs_chosen t ps c.try-in-turn.result
-          ∙ ap (jobs_with ps (Ok t)) (sym c.chosen-of.ensures ∙ answer)
+          c.try_in_turn.ensures.jobs ∙ jobs_chosen t ps c.try_in_turn.result
+          ∙ ap (jobs_with ps (Ok t)) (sym c.chosen_of.ensures ∙ answer)
           ∙ ap (λ x. jobs_with ps x (place_answer b turns m ps d)) ad;
-      machines = c.try-in-turn.ensures.machines;
+      machines = c.try_in_turn.ensures.machines;
       keeps = λ pass.
-          subst (λ (qs : List Placement). Passes b m qs) (sym c.try-in-turn.ensures.jobs)
-          (first_passes b m ps t free.0 free.1 (turns m (loads ps)) each c.try-in-turn.result first pass);
+          subst (λ (qs : List Placement). Passes b m qs) (sym c.try_in_turn.ensures.jobs)
+          (first_passes b m ps t free.0 free.1 (turns m (loads ps)) each c.try_in_turn.result first pass);
       means = λ u is.
           let same : t ≡ u = cc (ad, is) in
           subst
           (λ (v : Terms).
-          (c.chosen-of.result ≡ Err NoPlace → NoChoice b m ps v × NoneBesideMore b m ps v) × (NoChoice b m ps v → c.chosen-of.result ≡ Err NoPlace))
+          (c.chosen_of.result ≡ Err NoPlace → NoChoice b m ps v × NoneBesideMore b m ps v) × (NoChoice b m ps v → c.chosen_of.result ≡ Err NoPlace))
           same (
             (λ refused.
                 let none = no_choice b m ps t free.0 free.1 (turns m (loads ps)) each (chosen_refused _ (sym told ∙ refused)) in

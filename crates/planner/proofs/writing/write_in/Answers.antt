@@ -12,10 +12,10 @@ returns g c =
     let m = r.machines in
     let ps = vec_items r.placements in
     let space = c.args.out.now in
-    let own = c.write-roster.ensures in
-    let bytes : c.write-roster.new.out ≡ write_bytes code m ps space =
-    own.bytes ∙ ap (λ k. write_bytes k m ps space) c.its-code.ensures in
-    let small : code < 256 = subst (λ (k : ℕ). k < 256) c.its-code.ensures c.its-code.type-inv in
+    let own = c.write_roster.ensures in
+    let bytes : c.write_roster.new.out ≡ write_bytes code m ps space =
+    own.bytes ∙ ap (λ k. write_bytes k m ps space) c.its_code.ensures in
+    let small : code < 256 = subst (λ (k : ℕ). k < 256) c.its_code.ensures c.its_code.type-inv in
     let few : length ps ≤ 96 = omega (arith, r.few, r.placements.ok.0) in
     let back : TakenBack b code m ps (write_answer ps space) (write_bytes code m ps space) =
     taken_back b code m ps small r.sized.0 r.sized.1 few r.rising_numbers r.on_the_rack space in
@@ -23,7 +23,7 @@ returns g c =
       answer = own.answer;
       bytes = bytes;
       taken_back =
-          subst (λ (a : Result ℕ Refusal). TakenBack b code m ps a c.write-roster.new.out) (sym own.answer)
+          subst (λ (a : Result ℕ Refusal). TakenBack b code m ps a c.write_roster.new.out) (sym own.answer)
           (subst (λ (xs : List ℕ). TakenBack b code m ps (write_answer ps space) xs) (sym bytes) back);
       round_trip = own.round_trip;
       notes = own.notes;

@@ -9,11 +9,11 @@ loop-p-preserved g c =
     let ps = c.args.placements.now in
     let more = map_more (passive_late b ps) ps c.loop-p.p-index c.p-item.result c.loop-p-test.true c.p-item.is in
     let held = c.loop-p.invariant.0 in
-    let is = c.late-of.ensures.value in (
+    let is = c.late_of.ensures.value in (
       (cc),
       omega arith,
-      c.late-of.ensures.copies_kept ∙ c.loop-p.invariant.2,
-      c.push-reserved.ensures.capacity ∙ c.loop-p.invariant.3,
+      c.late_of.ensures.copies_kept ∙ c.loop-p.invariant.2,
+      c.push_reserved.ensures.capacity ∙ c.loop-p.invariant.3,
     )
 
 pub returns : goal.returns

@@ -8,8 +8,8 @@ loop-f-preserved g c =
     let b = g.R.Precedence.before c.args.rule.now in
     let more = largest_more b c.args.placements.now c.args.p.now c.loop-f.f in
     let held = c.loop-f.invariant.0 in
-    let is = c.lost-figure.ensures.value in
-    ((cc), c.lost-figure.ensures.copies_kept ∙ c.loop-f.invariant.1)
+    let is = c.lost_figure.ensures.value in
+    ((cc), c.lost_figure.ensures.copies_kept ∙ c.loop-f.invariant.1)
 
 pub returns : goal.returns
 returns g c =

@@ -4,8 +4,8 @@ use Rattle.rack.specs.Plan.{Arranged}
 use Rattle.roster.proofs.Ordered.{roster_arranged}
 use Rattle.plantest.proofs.check.roster_passes.Goals as goal
 
-pub passes-on-requires : goal.passes-on-requires
-passes-on-requires g c =
+pub passes_on-requires : goal.passes_on-requires
+passes_on-requires g c =
     let r = c.args.roster.now in
     record {
       few = omega (arith, ap length c.placements.ensures, r.placements.ok.0, r.few);

@@ -8,7 +8,7 @@ loop-i-preserved c =
     let i = c.loop-i.i in
     let more = loss_more c.args.lates.now c.args.g c.args.f c.args.placements.now i (get_or c.args.lates.now i 0) c.index-placements-i.result c.loop-i-test.true (omega arith) refl c.index-placements-i.is in
     let held = c.loop-i.invariant.0 in
-    ((cc), omega arith, c.add-loss.ensures.capacity ∙ c.loop-i.invariant.2)
+    ((cc), omega arith, c.add_loss.ensures.capacity ∙ c.loop-i.invariant.2)
 
 pub returns : goal.returns
 returns c =

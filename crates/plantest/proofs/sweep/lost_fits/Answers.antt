@@ -4,8 +4,8 @@ use Rattle.plantest.specs.Sweep.{pair_passes}
 use Rattle.plantest.proofs.Sweeps.{lates_long, pair_is}
 use Rattle.plantest.proofs.sweep.lost_fits.Goals as goal
 
-pub pair-fits-requires : goal.pair-fits-requires
-pair-fits-requires g c =
+pub pair_fits-requires : goal.pair_fits-requires
+pair_fits-requires g c =
     record { room = c.requires.room; same = lates_long (g.R.Precedence.before c.args.rule.now) c.args.placements.now c.args.lates.now c.requires.figures }
 
 pub returns : goal.returns
@@ -14,7 +14,7 @@ returns g c =
     let ps = c.args.placements.now in
     record {
       test =
-          c.pair-fits.ensures.test ∙ pair_is b ps c.args.lates.now c.args.g c.args.f c.requires.figures
+          c.pair_fits.ensures.test ∙ pair_is b ps c.args.lates.now c.args.g c.args.f c.requires.figures
           ∙ sym (ap (λ z. z || pair_passes b ps c.args.g c.args.f) (ne_eqb c.args.f c.args.g c.if-f-g.false));
-      copies_kept = c.pair-fits.ensures.copies_kept;
+      copies_kept = c.pair_fits.ensures.copies_kept;
     }

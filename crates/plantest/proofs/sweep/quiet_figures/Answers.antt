@@ -13,12 +13,12 @@ returns-in-None g c =
     let ps = c.args.placements.now in
     let p = c.p-item.result in
     let none : None ≡ quiet_figure b ps p =
-    quiet_found b ps p c.as-slice.result.now c.primary_copy.result None c.in-None.ensures.value (c.as-slice.ensures.value ∙ c.gather-quiet.ensures.items) c.primary_copy.ensures
+    quiet_found b ps p c.as_slice.result.now c.primary_copy.result None c.in-None.ensures.value (c.as_slice.ensures.value ∙ c.gather_quiet.ensures.items) c.primary_copy.ensures
     in
     record {
       test = sym (all_of_part_false (has_quiet b ps) ps p (in_at ps c.loop-p.p-index p c.loop-p-test.true c.p-item.is) (ap is_some (sym none)));
       figures = λ e. absurd (both_ways _ refl e);
-      copies_kept = c.gather-quiet.ensures.capacity ∙ c.loop-p.invariant.3;
+      copies_kept = c.gather_quiet.ensures.capacity ∙ c.loop-p.invariant.3;
       lates_kept = c.loop-p.invariant.4 ∙ c.clear.ensures.capacity;
     }
 
@@ -29,7 +29,7 @@ loop-p-preserved g c =
     let p = c.p-item.result in
     let late = c.in-Some.late in
     let found : Some late ≡ quiet_figure b ps p =
-    quiet_found b ps p c.as-slice.result.now c.primary_copy.result (Some late) c.in-Some.ensures.value (c.as-slice.ensures.value ∙ c.gather-quiet.ensures.items) c.primary_copy.ensures
+    quiet_found b ps p c.as_slice.result.now c.primary_copy.result (Some late) c.in-Some.ensures.value (c.as_slice.ensures.value ∙ c.gather_quiet.ensures.items) c.primary_copy.ensures
     in
     let is = passive_found b ps p late found in
     let more = map_more (passive_late b ps) ps c.loop-p.p-index p c.loop-p-test.true c.p-item.is in
@@ -37,8 +37,8 @@ loop-p-preserved g c =
       quiet_more b ps ps c.loop-p.p-index p late c.loop-p-test.true c.p-item.is found c.loop-p.invariant.0,
       (cc),
       omega arith,
-      c.gather-quiet.ensures.capacity ∙ c.loop-p.invariant.3,
-      c.push-reserved.ensures.capacity ∙ c.loop-p.invariant.4,
+      c.gather_quiet.ensures.capacity ∙ c.loop-p.invariant.3,
+      c.push_reserved.ensures.capacity ∙ c.loop-p.invariant.4,
     )
 
 pub returns : goal.returns

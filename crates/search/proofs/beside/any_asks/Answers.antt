@@ -5,12 +5,12 @@ use Rattle.search.specs.Beside.{any_of, asks}
 use Rattle.search.proofs.Asks.{any_here, any_more}
 use Rattle.search.proofs.beside.any_asks.Goals as goal
 
-pub returns-then-asks-for : goal.returns-then-asks-for
-returns-then-asks-for c =
+pub returns-then-asks_for : goal.returns-then-asks_for
+returns-then-asks_for c =
     let test = asks c.args.here c.args.there c.args.g c.args.f in
     let ps = c.args.placements.now in
     let p = c.p-item.result in
-    sym (any_here test ps p (in_at ps c.loop-p.p-index p c.loop-p-test.true c.p-item.is) (sym c.if-asks-for.ensures))
+    sym (any_here test ps p (in_at ps c.loop-p.p-index p c.loop-p-test.true c.p-item.is) (sym c.if-asks_for.ensures))
 
 pub loop-p-preserved : goal.loop-p-preserved
 loop-p-preserved c =
@@ -18,7 +18,7 @@ loop-p-preserved c =
     let ps = c.args.placements.now in
     let p = c.p-item.result in
     any_more test ps c.loop-p.p-index p c.loop-p-test.true c.p-item.is
-    ∙ or_from _ _ c.loop-p.invariant (sym c.if-asks-for.ensures)
+    ∙ or_from _ _ c.loop-p.invariant (sym c.if-asks_for.ensures)
 
 pub returns : goal.returns
 returns c =

@@ -10,6 +10,6 @@ returns-then-not-there c =
     let g = c.args.g in
     let f = c.args.f in
     sym
-    (ap (λ h. any_of (asks h (changed x f) g f) ps) (sym c.is-changed-here.ensures ∙ c.if-not-here.true)
-    ∙ ap (λ t. any_of (asks false t g f) ps) (sym c.is-changed-there.ensures ∙ c.if-not-there.true)
+    (ap (λ h. any_of (asks h (changed x f) g f) ps) (sym c.is_changed-here.ensures ∙ c.if-not-here.true)
+    ∙ ap (λ t. any_of (asks false t g f) ps) (sym c.is_changed-there.ensures ∙ c.if-not-there.true)
     ∙ none_asks g f ps)

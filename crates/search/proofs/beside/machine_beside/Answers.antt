@@ -5,17 +5,17 @@ use Rattle.rack.proofs.Tested.{all_below_more, all_below_part_false}
 use Rattle.search.specs.Beside.{pair_beside}
 use Rattle.search.proofs.beside.machine_beside.Goals as goal
 
-pub returns-then-not-pair-beside : goal.returns-then-not-pair-beside
-returns-then-not-pair-beside g c =
+pub returns-then-not-pair_beside : goal.returns-then-not-pair_beside
+returns-then-not-pair_beside g c =
     let test = pair_beside (g.R.Precedence.before c.args.rule.now) c.args.x.now (vec_items c.args.roster.now.placements) c.args.g in
     let m = c.args.roster.now.machines in
     let below : c.loop-f.f < m = omega (arith, c.loop-f-test.true, c.machines-f-end.ensures) in
-    sym (all_below_part_false test m c.loop-f.f below (sym c.if-not-pair-beside.ensures))
+    sym (all_below_part_false test m c.loop-f.f below (sym c.if-not-pair_beside.ensures))
 
 pub loop-f-preserved : goal.loop-f-preserved
 loop-f-preserved g c =
     let test = pair_beside (g.R.Precedence.before c.args.rule.now) c.args.x.now (vec_items c.args.roster.now.placements) c.args.g in
-    all_below_more test c.loop-f.f ∙ and_from _ _ c.loop-f.invariant (sym c.if-not-pair-beside.ensures)
+    all_below_more test c.loop-f.f ∙ and_from _ _ c.loop-f.invariant (sym c.if-not-pair_beside.ensures)
 
 pub returns : goal.returns
 returns g c =

@@ -6,8 +6,8 @@ use Rattle.plantest.specs.Sweep.{quiet_passes, pair_passes}
 use Rattle.search.specs.Beside.{machine_beside}
 use Rattle.search.proofs.beside.passes_beside.Goals as goal
 
-pub returns-then-not-machine-beside : goal.returns-then-not-machine-beside
-returns-then-not-machine-beside g c =
+pub returns-then-not-machine_beside : goal.returns-then-not-machine_beside
+returns-then-not-machine_beside g c =
     let b = g.R.Precedence.before c.args.rule.now in
     let x = c.args.x.now in
     let m = c.args.roster.now.machines in
@@ -19,11 +19,11 @@ returns-then-not-machine-beside g c =
           sym
           (and_right (quiet_passes b ps) (pair_passes b ps x.standby x.primary && all_below m test)
           (and_right (pair_passes b ps x.standby x.primary) (all_below m test)
-          (all_below_part_false test m c.loop-g.g below (sym c.if-not-machine-beside.ensures))));
-      kept = c.quiet-beside.ensures.kept;
+          (all_below_part_false test m c.loop-g.g below (sym c.if-not-machine_beside.ensures))));
+      kept = c.quiet_beside.ensures.kept;
     }
 
 pub loop-g-preserved : goal.loop-g-preserved
 loop-g-preserved g c =
     let test = machine_beside (g.R.Precedence.before c.args.rule.now) c.args.roster.now.machines c.args.x.now (vec_items c.args.roster.now.placements) in
-    all_below_more test c.loop-g.g ∙ and_from _ _ c.loop-g.invariant (sym c.if-not-machine-beside.ensures)
+    all_below_more test c.loop-g.g ∙ and_from _ _ c.loop-g.invariant (sym c.if-not-machine_beside.ensures)

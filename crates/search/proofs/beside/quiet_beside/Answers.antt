@@ -43,7 +43,7 @@ loop-i-preserved g c =
       quiet_more b ps ps i p late lt read found c.loop-i.invariant.0,
       (cc),
       omega arith,
-      c.push-reserved.ensures.capacity ∙ c.loop-i.invariant.3,
+      c.push_reserved.ensures.capacity ∙ c.loop-i.invariant.3,
     )
 
 pub returns : goal.returns

@@ -6,8 +6,8 @@ use Rattle.search.proofs.Knows.{ready_still}
 use Rattle.search.proofs.Firsts.{choice_here, choice_more, choice_end}
 use Rattle.search.proofs.choices.try_primaries.Goals as goal
 
-pub try-primary-requires : goal.try-primary-requires
-try-primary-requires g c =
+pub try_primary-requires : goal.try_primary-requires
+try_primary-requires g c =
     let r = c.args.roster.now in
     let at = c.loop-i.roster in
     ready_still (g.R.Precedence.before c.args.rule.now) c.args.terms r.machines at.machines (vec_items r.placements) (vec_items at.placements) (vec_items c.args.lates.now.known) (vec_items c.loop-i.lates.known) c.loop-i.invariant.1 c.loop-i.invariant.0 c.loop-i.invariant.2 c.requires

@@ -6,19 +6,19 @@ use Rattle.search.proofs.Knows.{ready_still}
 use Rattle.search.proofs.Firsts.{standby_here, standby_more, standby_end}
 use Rattle.search.proofs.choices.try_standbys.Goals as goal
 
-pub try-apart-requires : goal.try-apart-requires
-try-apart-requires g c =
+pub try_apart-requires : goal.try_apart-requires
+try_apart-requires g c =
     let r = c.args.roster.now in
     let at = c.loop-i.roster in
     ready_still (g.R.Precedence.before c.args.rule.now) c.args.terms r.machines at.machines (vec_items r.placements) (vec_items at.placements) (vec_items c.args.lates.now.known) (vec_items c.loop-i.lates.known) c.loop-i.invariant.1 c.loop-i.invariant.0 c.loop-i.invariant.2 c.requires
 
-pub returns-then-try-apart : goal.returns-then-try-apart
-returns-then-try-apart g c =
+pub returns-then-try_apart : goal.returns-then-try_apart
+returns-then-try_apart g c =
     let b = g.R.Precedence.before c.args.rule.now in
     let r = c.args.roster.now in
     let ps = vec_items r.placements in
     let test = tried_at b r.machines ps c.args.terms c.args.primary c.args.status in
-    let took = c.if-try-apart.ensures in
+    let took = c.if-try_apart.ensures in
     let x = get_or c.args.turns.now c.loop-i.i 0 in
     let items = c.loop-i.invariant.0 in
     let count = c.loop-i.invariant.1 in
@@ -35,7 +35,7 @@ loop-i-preserved g c =
     let r = c.args.roster.now in
     let ps = vec_items r.placements in
     let test = tried_at b r.machines ps c.args.terms c.args.primary c.args.status in
-    let took = c.if-try-apart.ensures in
+    let took = c.if-try_apart.ensures in
     let x = get_or c.args.turns.now c.loop-i.i 0 in
     let items = c.loop-i.invariant.0 in
     let count = c.loop-i.invariant.1 in

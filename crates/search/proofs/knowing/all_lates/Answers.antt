@@ -14,10 +14,10 @@ loop-p-preserved g c =
     let read : p ≡ get_or ps i p = c.p-item.is ∙ ap (λ l. get_or l i p) here in
     let more = map_more (passive_late b ps) ps i p lt read in
     let held = c.loop-p.invariant.0 in
-    let is = c.late-of.ensures in (
+    let is = c.late_of.ensures in (
       (cc),
       omega arith,
-      c.push-reserved.ensures.capacity ∙ c.loop-p.invariant.2,
+      c.push_reserved.ensures.capacity ∙ c.loop-p.invariant.2,
     )
 
 pub returns : goal.returns

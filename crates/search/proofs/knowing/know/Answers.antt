@@ -9,7 +9,7 @@ use Rattle.search.proofs.knowing.know.Goals as goal
 
 pub insert-requires : goal.insert-requires
 insert-requires g c =
-    omega (arith, c.place-for-i.ensures.within, ap length c.placements.ensures, c.args.roster.now.placements.ok.0, c.all-lates.ensures.len)
+    omega (arith, c.place_for-i.ensures.within, ap length c.placements.ensures, c.args.roster.now.placements.ok.0, c.all_lates.ensures.len)
 
 pub returns : goal.returns
 returns g c =
@@ -17,19 +17,19 @@ returns g c =
     let r = c.args.roster.now in
     let ps = vec_items r.placements in
     let p = placement_of c.args.terms 0 0 Passive in
-    let i = c.place-for-i.result in
-    let held = c.all-lates.new.known in
+    let i = c.place_for-i.result in
+    let held = c.all_lates.new.known in
     let here = c.placements.ensures in
-    let pass = sym c.if-not-roster-passes.ensures in
-    let room : vec_len held < vec_capacity held = omega (arith, c.requires, c.all-lates.ensures.len, c.all-lates.ensures.kept, r.few) in
-    let within : i ≤ length ps = omega (arith, c.place-for-i.ensures.within, ap length here) in
-    let put = ap (λ l. insert l i p) (sym here) ∙ c.place-for-i.ensures.there ∙ ap (with_job p) here in
+    let pass = sym c.if-not-roster_passes.ensures in
+    let room : vec_len held < vec_capacity held = omega (arith, c.requires, c.all_lates.ensures.len, c.all_lates.ensures.kept, r.few) in
+    let within : i ≤ length ps = omega (arith, c.place_for-i.ensures.within, ap length here) in
+    let put = ap (λ l. insert l i p) (sym here) ∙ c.place_for-i.ensures.there ∙ ap (with_job p) here in
     let is =
     c.insert.ensures.items
     ∙ cond-true (is_ok c.insert.result) (insert (vec_items held) i 0) (vec_items held) (c.insert.ensures.succeeds room)
-    ∙ ap (λ l. insert l i 0) c.all-lates.ensures.figures in
+    ∙ ap (λ l. insert l i 0) c.all_lates.ensures.figures in
     record {
       test = sym pass;
       ready = λ _. ready_beside b r.machines ps p i (vec_items c.insert.new.self) pass within put is;
-      kept = (c.insert.ensures.in_place room).1.0 ∙ c.all-lates.ensures.kept;
+      kept = (c.insert.ensures.in_place room).1.0 ∙ c.all_lates.ensures.kept;
     }

@@ -5,8 +5,8 @@ use Rattle.rack.proofs.Tested.{in_at, all_of_more, all_of_part_false}
 use Rattle.search.specs.Room.{quiet_on}
 use Rattle.search.proofs.room.all_quiet_on.Goals as goal
 
-pub returns-then-not-is-quiet-on : goal.returns-then-not-is-quiet-on
-returns-then-not-is-quiet-on g c =
+pub returns-then-not-is_quiet_on : goal.returns-then-not-is_quiet_on
+returns-then-not-is_quiet_on g c =
     let ps = vec_items c.args.roster.now.placements in
     let test = quiet_on (g.R.Precedence.before c.args.rule.now) ps c.args.g in
     let i = c.loop-p.p-index in
@@ -14,7 +14,7 @@ returns-then-not-is-quiet-on g c =
     let here = c.placements-p-items.ensures in
     let lt : i < length ps = omega (arith, ap length here) in
     let read : p ≡ get_or ps i p = c.p-item.is ∙ ap (λ l. get_or l i p) here in
-    sym (all_of_part_false test ps p (in_at ps i p lt read) (sym c.if-not-is-quiet-on.ensures))
+    sym (all_of_part_false test ps p (in_at ps i p lt read) (sym c.if-not-is_quiet_on.ensures))
 
 pub loop-p-preserved : goal.loop-p-preserved
 loop-p-preserved g c =
@@ -25,7 +25,7 @@ loop-p-preserved g c =
     let here = c.placements-p-items.ensures in
     let lt : i < length ps = omega (arith, ap length here) in
     let read : p ≡ get_or ps i p = c.p-item.is ∙ ap (λ l. get_or l i p) here in
-    all_of_more test ps i p lt read ∙ and_from _ _ c.loop-p.invariant (sym c.if-not-is-quiet-on.ensures)
+    all_of_more test ps i p lt read ∙ and_from _ _ c.loop-p.invariant (sym c.if-not-is_quiet_on.ensures)
 
 pub returns : goal.returns
 returns g c =

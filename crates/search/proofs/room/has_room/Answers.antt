@@ -19,10 +19,10 @@ returns g c =
     record {
       none = λ missing.
           no_room b r.machines ps c.args.terms c.args.primary c.if-primary-eq0.standby Passive
-          (ap (λ (qs : List Placement). all_of (quiet_on b qs c.args.primary) qs) (sym put.items) ∙ sym c.all-quiet-on-quiet.ensures ∙ missing);
+          (ap (λ (qs : List Placement). all_of (quiet_on b qs c.args.primary) qs) (sym put.items) ∙ sym c.all_quiet_on-quiet.ensures ∙ missing);
       jobs =
-          c.take-back.ensures.jobs
+          c.take_back.ensures.jobs
           ∙ ap (without c.args.terms.number) put.items
           ∙ in_and_out p ps (addable_new r.machines ps p (sym put.test));
-      machines = c.take-back.ensures.machines ∙ put.machines;
+      machines = c.take_back.ensures.machines ∙ put.machines;
     }

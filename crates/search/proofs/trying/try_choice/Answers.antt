@@ -13,10 +13,10 @@ returns g c =
     let put = c.if-not-insert.ensures in
     let after = c.insert.new.self in
     record {
-      test = sym (tried_fails b m after.machines ps (vec_items after.placements) p put.machines put.items (sym c.if-roster-passes.ensures));
+      test = sym (tried_fails b m after.machines ps (vec_items after.placements) p put.machines put.items (sym c.if-roster_passes.ensures));
       jobs =
-          c.take-back.ensures.jobs
+          c.take_back.ensures.jobs
           ∙ ap (without (number p)) put.items
           ∙ in_and_out p ps (addable_new m ps p (sym put.test));
-      machines = c.take-back.ensures.machines ∙ put.machines;
+      machines = c.take_back.ensures.machines ∙ put.machines;
     }

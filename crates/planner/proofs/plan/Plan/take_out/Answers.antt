@@ -15,7 +15,7 @@ returns g c =
     let n = c.args.number in
     let out = c.remove.ensures in
     record {
-      found = c.is-some.ensures ∙ ap is_some out.found;
+      found = c.is_some.ensures ∙ ap is_some out.found;
       jobs = out.items;
       same = (refl, refl, out.machines);
       keeps = λ pass.
