@@ -21,8 +21,8 @@ returns-in-Head c =
       roomy = c.loop-record.invariant.1;
     }
 
-pub returns-in-default-admit : goal.returns-in-default-admit
-returns-in-default-admit c =
+pub returns-in_default-admit : goal.returns-in_default-admit
+returns-in_default-admit c =
     let items = vec_items c.loop-record.out in
     let jobs = vec_len c.loop-record.out in
     let last = c.loop-record.last in
@@ -30,7 +30,7 @@ returns-in-default-admit c =
     let rest = ahead c.next.new.self in
     let it = c.in-Job.job in
     let off : admitted c.args.m last jobs it.draft it.pair it.status ≡ None =
-    admitted_at c.args.m last c.len.result jobs it.draft it.pair it.status None c.len.ensures c.in-default-admit.ensures in
+    admitted_at c.args.m last c.len.result jobs it.draft it.pair it.status None c.len.ensures c.in_default-admit.ensures in
     record {
       holds =
           seen _ items c.args.m last jobs notes (ahead c.loop-record.reader) rest (rec_of c.in-Some.record) (job it.draft it.pair it.status)
@@ -109,6 +109,6 @@ returns c =
     record {
       holds =
           turn _ (vec_items c.loop-record.out) c.args.m c.loop-record.last (vec_len c.loop-record.out) c.loop-record.notes
-          (ahead c.loop-record.reader) None c.loop-record.invariant.0 c.in-default.ensures.reads;
+          (ahead c.loop-record.reader) None c.loop-record.invariant.0 c.in_default.ensures.reads;
       roomy = c.loop-record.invariant.1;
     }

@@ -15,5 +15,5 @@ returns g c =
       plan = own.plan;
       keeps = own.keeps;
       means =
-          adopt_means b code xs (all_bytes xs c.type-inv.bytes) c.take_in.result (old.machines, vec_items old.placements) (new.machines, vec_items new.placements) own.answer own.plan;
+          adopt_means b code xs (all_bytes xs c.type_inv.bytes) c.take_in.result (old.machines, vec_items old.placements) (new.machines, vec_items new.placements) own.answer own.plan;
     }

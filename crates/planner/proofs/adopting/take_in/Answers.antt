@@ -18,9 +18,9 @@ returns g c =
     record {
       answer = sym (adopt_done b code xs file.machines (vec_items file.placements) held pass);
       plan =
-          ap (λ (r : Roster). (r.machines, vec_items r.placements)) c.swap.ensures.x-after
+          ap (λ (r : Roster). (r.machines, vec_items r.placements)) c.swap.ensures.x_after
           ∙ sym (adopt_takes b code xs file.machines (vec_items file.placements) held pass (old.machines, vec_items old.placements));
       keeps = λ _.
-          subst (λ (r : Roster). Passes b r.machines (vec_items r.placements)) (sym c.swap.ensures.x-after)
+          subst (λ (r : Roster). Passes b r.machines (vec_items r.placements)) (sym c.swap.ensures.x_after)
           (passes_means b file.machines (vec_items file.placements) pass);
     }

@@ -15,7 +15,7 @@ returns g c =
     let own = c.write_roster.ensures in
     let bytes : c.write_roster.new.out ≡ write_bytes code m ps space =
     own.bytes ∙ ap (λ k. write_bytes k m ps space) c.its_code.ensures in
-    let small : code < 256 = subst (λ (k : ℕ). k < 256) c.its_code.ensures c.its_code.type-inv in
+    let small : code < 256 = subst (λ (k : ℕ). k < 256) c.its_code.ensures c.its_code.type_inv in
     let few : length ps ≤ 96 = omega (arith, r.few, r.placements.ok.0) in
     let back : TakenBack b code m ps (write_answer ps space) (write_bytes code m ps space) =
     taken_back b code m ps small r.sized.0 r.sized.1 few r.rising_numbers r.on_the_rack space in
