@@ -10,7 +10,7 @@ import sys
 
 NAME = r"[^\W\d_][\w'·]*(?:-[\w'·]+)*"
 TOKEN = re.compile(r"(?<![\w'·◌-])" + NAME + r"(?![\w'·◌-])")
-MADE = ("Answers.antt", "Invariants.antt", "Choices.antt")
+MADE = re.compile(r"/proofs/.*/(?:Answers|Invariants|Choices)\.antt$")
 
 
 def files(*ends):
@@ -55,7 +55,7 @@ def own_names():
     library = library_names(texts.values())
     found = set()
     for path, text in texts.items():
-        if path.endswith(".rt") or path.endswith(MADE):
+        if path.endswith(".rt") or MADE.search(path):
             continue
         for line in text.split("\n"):
             code, _ = code_of(line, "--")
@@ -95,7 +95,7 @@ def main():
         text = read(path)
         if path.endswith(".rt"):
             new = "\n".join(turned(line, names, "//") if '"' not in line else line for line in text.split("\n"))
-        elif path.endswith(MADE):
+        elif MADE.search(path):
             mine = {n: new_name(n) for n in local_names(text)}
             new = turned(text, {**names, **mine}, "--")
         else:

@@ -37,6 +37,9 @@ fn tell_of(rt: &HostRuntime, times: u32, jobs: &[Draft; 96], kind: &str) -> anyh
 }
 
 pub fn tell(rt: &HostRuntime, times: u32) -> anyhow::Result<()> {
-    tell_of(rt, times, &alike(), "")?;
+    tell_of(rt, times, &alike(), "")
+}
+
+pub fn tell_varied(rt: &HostRuntime, times: u32) -> anyhow::Result<()> {
     tell_of(rt, times, &varied(), " with varied jobs")
 }

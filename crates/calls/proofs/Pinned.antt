@@ -1,5 +1,5 @@
 -- A pin keeps the candidate that is given exactly when it is one and its plan passes.
-use Rattle.std.proofs.Common.{◌≡◌, ℕ, Bool, true, false, cond, ◌&&◌, eqb, List, Some, None, Ok, Err, Option, Result, sym, refl, ap, ◌∙◌, arith}
+use Rattle.std.proofs.Common.{◌≡◌, ℕ, Bool, true, false, cond, ◌&&◌, eqb, List, Some, None, Ok, Err, Option, Result, refl, ap, ◌∙◌, arith}
 use Rattle.std.proofs.lemmas.Bool.{and_from, and_parts, eqb-true}
 use Rattle.terms.specs.declared.draft.Draft.{Draft}
 use Rattle.terms.specs.declared.terms.Terms.{Terms}
@@ -18,7 +18,7 @@ use Rattle.search.specs.Choices.{Choice, placement_of, passes_beside}
 use Rattle.planner.specs.Answers.{status_number, status_of, admitted, pinned, pin_admitted, pin_choice, pin_jobs, jobs_with, done}
 use Rattle.calls.specs.Said.{said_done, refusal_number}
 use Rattle.calls.specs.Calls.{State, state}
-use Rattle.calls.specs.Meanings.{Fitting, Pinning}
+use Rattle.calls.specs.Meanings.{Pinning}
 use Rattle.calls.proofs.Admitting.{admitted_admissible, admissible_admitted}
 
 -- no refusal has the number 0

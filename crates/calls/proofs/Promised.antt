@@ -1,6 +1,6 @@
 -- What holds at each call of a list, said of its parts.
 use Rattle.std.proofs.Common.{◌≡◌, ℕ, ◌≤◌, Bool, true, false, cond, eqb, ltb, leb, ◌⊎◌, List, [], ◌∷◌, ◌++◌, length, get_or, is_some, Some, None, Ok, Err, Option, Result, sym, refl, ap, ◌∙◌, subst, inl, inr, ⊎_elim, arith}
-use Rattle.std.proofs.lemmas.Bool.{and_from, both_ways, eq-eqb, eqb-true, le-leb, lt-ltb}
+use Rattle.std.proofs.lemmas.Bool.{and_from, both_ways, eq-eqb, eqb-true, le-leb}
 use Rattle.terms.specs.declared.draft.Draft.{Draft}
 use Rattle.terms.specs.declared.terms.Terms.{Terms}
 use Rattle.terms.specs.declared.refusal.Refusal.{Refusal}

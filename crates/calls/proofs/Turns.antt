@@ -1,10 +1,10 @@
 -- The first choice that passes, among all in their sequence.
-use Rattle.std.proofs.Common.{◌≡◌, ℕ, Bool, true, false, cond, not, ◌&&◌, eqb, List, [], ◌∷◌, ◌++◌, Some, None, Option, sym, refl, ap, ◌∙◌, subst, ⊎_elim, arith}
+use Rattle.std.proofs.Common.{◌≡◌, ℕ, Bool, true, false, cond, not, ◌&&◌, eqb, List, [], ◌∷◌, ◌++◌, Some, None, Option, refl, ap, ◌∙◌, subst, ⊎_elim, arith}
 use Rattle.std.proofs.lemmas.Bool.{both_ways}
 use Rattle.rack.specs.declared.placement.Status.{Status}
 use Rattle.rack.specs.declared.placement.Status.TheVariants.{Passive, Active}
 use Rattle.rack.specs.Plan.{In}
-use Rattle.search.specs.Choices.{Choice, first_standby, chosen_or, first_with, first_choice}
+use Rattle.search.specs.Choices.{Choice, first_standby, chosen_or, first_choice}
 use Rattle.calls.specs.Turns.{standbys, with_primaries, First}
 
 abbrev or_else : Option Choice → Option Choice → Option Choice

@@ -1,5 +1,7 @@
 // A list of calls carried out on one plan, one after the other, and what a plan so made promises.
 // Knows the planner's calls by their contracts.
+#![tactic(auto)]
+
 mod answer;
 mod call;
 mod carry;

@@ -1,6 +1,5 @@
 -- The plans that the rows speak of.
 use Rattle.std.specs.Prelude.{ℕ, cond, List, [], ◌∷◌, ◌==◌, refl}
-use Rattle.terms.specs.declared.terms.Terms.{Terms}
 use Rattle.rack.specs.declared.placement.Status.{Status}
 use Rattle.rack.specs.declared.placement.Status.TheVariants.{Passive, Active}
 use Rattle.rack.specs.declared.placement.Placement.{Placement}

@@ -5,7 +5,6 @@ use Rattle.terms.specs.declared.terms.Terms.{Terms}
 use Rattle.terms.specs.Limits.{lawful}
 use Rattle.terms.specs.Making.{terms_of}
 use Rattle.precedence.specs.Deadlines.{deadline_before}
-use Rattle.precedence.specs.declared.deadline.Deadline.{Deadline}
 use Rattle.figures.specs.declared.copies.Role.{Role}
 use Rattle.figures.specs.declared.copies.Role.TheVariants.{Primary, Standby}
 use Rattle.rack.specs.declared.placement.Status.{Status}

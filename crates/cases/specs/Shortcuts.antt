@@ -1,12 +1,10 @@
 -- Shortcuts that accept plans which miss a deadline. None of them is the product's; they stand here to be told apart.
-use Rattle.std.specs.Prelude.{ℕ, Bool, cond, not, ◌&&◌, ◌||◌, List, [], ◌∷◌, ◌++◌, is_some, Option, ◌==◌, nat_lt}
+use Rattle.std.specs.Prelude.{ℕ, Bool, cond, ◌&&◌, ◌||◌, List, [], ◌∷◌, is_some, Option, ◌==◌, nat_lt}
 use Rattle.terms.specs.declared.terms.Terms.{Terms}
-use Rattle.figures.specs.declared.copies.Role.TheVariants.{Primary, Standby}
 use Rattle.figures.specs.declared.copies.JobCopy.{JobCopy}
 use Rattle.figures.specs.Figure.{figure_of}
 use Rattle.rack.specs.declared.placement.Placement.{Placement}
-use Rattle.rack.specs.Plan.{active}
-use Rattle.rack.specs.Sets.{copy_of, primary_copy, standby_copy, gather, quiet, quiet_figure}
+use Rattle.rack.specs.Sets.{primary_copy, standby_copy, gather, quiet, quiet_figure}
 use Rattle.rack.specs.Test.{all_below, all_of}
 
 -- the published loss set: the active standbys whose primary is elsewhere are left out

@@ -2,7 +2,7 @@
 use Rattle.std.specs.Prelude.{Bool, true, false, ◌&&◌, List, [], ◌∷◌, Some, None}
 use Rattle.rack.specs.declared.placement.Status.TheVariants.{Passive, Active}
 use Rattle.rack.specs.Day.{stops}
-use Rattle.calls.specs.declared.call.Call.TheVariants.{Place, Pin, Withdraw, Figures, Write}
+use Rattle.calls.specs.declared.call.Call.TheVariants.{Place, Withdraw, Figures, Write}
 use Rattle.cases.specs.Rows.{Row, writes, writes_bytes, adopts, adopts_as, pair_is, lists, places, pins, figures_are, withdraws, opens, judged, tested, quiet_is, lost_is, standby_is, tested_short, quiet_without_lateness, tested_no_ties, served, draft, holds}
 use Rattle.cases.specs.Rows.{by_primary, by_standby, by_nobody}
 use Rattle.cases.specs.Plans.{job_10, job_11, both, job_21, late_plan, job_1, job_2, tight_plan, loose_plan, job_5, after_withdrawal, far_plan}
@@ -88,8 +88,13 @@ worked_plans =
     ∷ pins 2 [] (draft 1 10 10 1 1 0) 1 1 0 7
     ∷ pins 2 [] (draft 1 10 10 1 1 0) 0 2 0 7
     ∷ pins 2 [] (draft 1 10 10 1 1 0) 0 1 2 7
+    ∷ []
+
+-- files, pairs and lists of calls
+abbrev pub filed_plans : List Row
+filed_plans =
     -- 2 as a file of 29 bytes: the later byte of a space of 30 stays, and 28 are too short
-    ∷ writes (job_10 ∷ []) 29 0
+    writes (job_10 ∷ []) 29 0
     ∷ writes (job_10 ∷ []) 28 10
     ∷ writes_bytes 2 (job_10 ∷ []) 30
     (1 ∷ 1 ∷ 2 ∷ 2 ∷ 0 ∷ 10 ∷ 0 ∷ 0 ∷ 0 ∷ 10 ∷ 0 ∷ 0 ∷ 0 ∷ 10 ∷ 0 ∷ 0 ∷ 0 ∷ 4 ∷ 0 ∷ 0 ∷ 0 ∷ 4 ∷ 0 ∷ 0 ∷ 0 ∷ 0 ∷ 0 ∷ 0 ∷ 9 ∷ 7 ∷ [])

@@ -1,11 +1,10 @@
 -- Where less is asked, the figure is no larger.
-use Rattle.std.proofs.Common.{◌≡◌, ℕ, zero, suc, ◌+◌, ◌-◌, ◌*◌, ◌<◌, ◌≤◌, Bool, true, false, cond, ◌⊎◌, List, [], ◌∷◌, Some, None, Option, sym, refl, ap, ◌∙◌, inl, inr, ⊎_elim, mul-le-mul, le-div_iff_mul-le, arith}
-use native.Mathlib.Nat.{mod-add-div'}
-use Rattle.std.proofs.lemmas.Bool.{cases_lt, cases_Bool, cond-true, cond-false}
+use Rattle.std.proofs.Common.{◌≡◌, ℕ, zero, suc, ◌+◌, ◌-◌, ◌*◌, ◌<◌, ◌≤◌, Bool, true, false, cond, ◌⊎◌, List, Some, None, Option, sym, refl, ap, inl, inr, ⊎_elim, mul-le-mul, arith}
+use Rattle.std.proofs.lemmas.Bool.{cases_lt, cond-true}
 use Rattle.std.proofs.lemmas.Nat.{div_below}
 use Rattle.terms.specs.declared.terms.Terms.{Terms}
 use Rattle.figures.specs.declared.copies.JobCopy.{JobCopy}
-use Rattle.figures.specs.Demand.{ceil, charge, work_in, held_off, all_held_off, demand}
+use Rattle.figures.specs.Demand.{ceil, work_in, all_held_off, demand}
 use Rattle.figures.specs.Window.{Window}
 use Rattle.figures.specs.Figure.{Figured, figure_of}
 use Rattle.figures.specs.Lighter.{NoHeavier, Lighter, empty, left_out, replaced, NoLonger}

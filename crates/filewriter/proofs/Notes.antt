@@ -1,12 +1,12 @@
 -- The plan that a file holds, written again, is the same file without its notes.
-use Rattle.std.proofs.Common.{◌≡◌, ℕ, List, [], ◌∷◌, ◌++◌, map, Option, unwrap_or, sym, refl, ap, ◌∙◌}
+use Rattle.std.proofs.Common.{◌≡◌, ℕ, List, [], ◌∷◌, ◌++◌, map, Option, unwrap_or, sym, refl, ap}
 use Rattle.terms.specs.declared.draft.Draft.{Draft}
 use Rattle.terms.specs.declared.terms.Terms.{Terms}
 use Rattle.terms.specs.Making.{Of}
 use Rattle.rack.specs.declared.placement.Placement.{Placement}
 use Rattle.pairs.proofs.Inverses.{inverse}
 use Rattle.planfile.specs.Format.{Rec, head, job, note, end, encode}
-use Rattle.planfile.specs.Jobs.{Places, status_byte}
+use Rattle.planfile.specs.Jobs.{Places}
 use Rattle.planfile.specs.File.{Between, encode_all}
 use Rattle.filewriter.specs.Written.{draft_of, pair_byte, job_record, without_notes, NotesLeftOut}
 

@@ -11,7 +11,7 @@ use Rattle.planfile.specs.Jobs.{Places, status_byte}
 use Rattle.planfile.specs.File.{Between, notes_in, RisingFrom, PlanFile}
 use Rattle.planfile.proofs.Places.{machines_are, small_status}
 use Rattle.planfile.proofs.Agrees.{agree}
-use Rattle.roster.specs.Rising.{rising_from, rising, placed, all_placed}
+use Rattle.roster.specs.Rising.{rising_from, placed, all_placed}
 use Rattle.roster.proofs.Ordered.{placed_here}
 use Rattle.filewriter.specs.Written.{draft_of, pair_byte, job_record, jobs_of, file_of, RoundTrip}
 use Rattle.filewriter.proofs.Overs.{length_file}

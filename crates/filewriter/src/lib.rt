@@ -1,4 +1,6 @@
 // Writes a roster as a plan file. Knows no plan test and no rule but by its code.
+#![tactic(auto)]
+
 mod bytes;
 mod writing;
 

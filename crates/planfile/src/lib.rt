@@ -1,5 +1,7 @@
 // The plan file: its records, a reader over the bytes that a caller lends, and which bytes are a plan file.
 // Knows no plan test, no figure, and no rule but by its code.
+#![tactic(auto)]
+
 mod file;
 mod reader;
 mod reads;

@@ -1,5 +1,5 @@
 -- What the first choice that passes says: of the job, of the plan after it, and of the job that has none.
-use Rattle.std.proofs.Common.{◌≡◌, ℕ, ◌<◌, Bool, true, false, cond, not, ◌&&◌, ltb, List, length, is_some, Some, None, Ok, Err, Option, Result, sym, refl, ap, ◌∙◌, subst, ⊎_elim, arith}
+use Rattle.std.proofs.Common.{◌≡◌, ℕ, ◌<◌, Bool, true, false, cond, ◌&&◌, ltb, List, length, is_some, Some, None, Ok, Err, Option, Result, sym, refl, ap, ◌∙◌, subst, ⊎_elim, arith}
 use Rattle.std.proofs.lemmas.List.{get_or_default}
 use Rattle.std.proofs.lemmas.Bool.{cond_both, lt-ltb, ltb-true, not_from_false}
 use Rattle.terms.specs.declared.terms.Terms.{Terms}
@@ -8,7 +8,7 @@ use Rattle.terms.specs.declared.refusal.Refusal.TheVariants.{NoPlace, Pin}
 use Rattle.rack.specs.declared.placement.Status.{Status}
 use Rattle.rack.specs.declared.placement.Placement.{Placement}
 use Rattle.rack.specs.Plan.{In, number}
-use Rattle.rack.specs.Test.{Passes, passes}
+use Rattle.rack.specs.Test.{Passes}
 use Rattle.rack.proofs.Tested.{in_at, at_in, passes_means, passes_true}
 use Rattle.rack.proofs.Parts.{fewer_pass}
 use Rattle.orders.specs.Turns.{EachOnce}

@@ -1,5 +1,5 @@
 -- What each call answers, and the jobs of the plan after it.
-use Rattle.std.specs.Prelude.{ℕ, Bool, true, false, cond, ◌&&◌, List, [], ◌∷◌, length, is_some, Some, None, Ok, Err, Option, Result, ◌==◌, nat_le, nat_lt}
+use Rattle.std.specs.Prelude.{ℕ, Bool, cond, ◌&&◌, List, length, is_some, Some, None, Ok, Err, Option, Result, ◌==◌, nat_le, nat_lt}
 use Rattle.terms.specs.declared.draft.Draft.{Draft}
 use Rattle.terms.specs.declared.terms.Terms.{Terms}
 use Rattle.terms.specs.declared.refusal.Refusal.{Refusal}
@@ -8,8 +8,7 @@ use Rattle.terms.specs.Making.{drafted}
 use Rattle.rack.specs.declared.placement.Status.{Status}
 use Rattle.rack.specs.declared.placement.Status.TheVariants.{Passive, Active}
 use Rattle.rack.specs.declared.placement.Placement.{Placement}
-use Rattle.rack.specs.Test.{passes}
-use Rattle.roster.specs.Changes.{find, with_job, without}
+use Rattle.roster.specs.Changes.{find, with_job}
 use Rattle.roster.specs.Rising.{placed}
 use Rattle.roster.specs.Loads.{loads}
 use Rattle.search.specs.Choices.{Choice, placement_of, passes_beside, first_choice}

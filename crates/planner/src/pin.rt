@@ -7,12 +7,12 @@ ghost use Rattle.search.specs.Trying.{tried};
 
 use crate::admit::admit;
 use crate::plan::Plan;
+use crate::search::try_choice;
 use orders::SearchOrder;
 use plantest::Workspace;
 use precedence::Precedence;
 use rack::{Placement, Status};
 use roster::Roster;
-use search::try_choice;
 use terms::{Draft, Refusal, Terms};
 
 // A status by its number.

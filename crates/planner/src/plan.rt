@@ -5,17 +5,15 @@ use orders::SearchOrder;
 use plantest::Workspace;
 use precedence::Precedence;
 use roster::Roster;
-use search::Latenesses;
 use std::alloc::{AllocError, Global};
 
-// A plan, the rule and the search order that it goes by, and memory for its tests and searches.
+// A plan, the rule and the search order that it goes by, and memory for its tests.
 #[derive(Drop)]
 pub struct Plan<R: Precedence, O: SearchOrder> {
     pub(crate) rule: R,
     pub(crate) order: O,
     pub(crate) roster: Roster,
     pub(crate) space: Workspace,
-    pub(crate) lates: Latenesses,
     // a file that is being adopted
     pub(crate) spare: Roster,
     pub(crate) incoming: Incoming,
@@ -28,7 +26,6 @@ impl<R: Precedence + Drop, O: SearchOrder + Drop> Plan<R, O> {
     {
         let roster = Roster::new(heap)?;
         let space = Workspace::new(heap)?;
-        let lates = Latenesses::new(heap)?;
         let spare = Roster::new(heap)?;
         let placements = Vec::with_capacity(heap, 96)?;
         let incoming = Incoming { placements };
@@ -37,7 +34,6 @@ impl<R: Precedence + Drop, O: SearchOrder + Drop> Plan<R, O> {
             order,
             roster,
             space,
-            lates,
             spare,
             incoming,
         })

@@ -4,7 +4,7 @@ use Rattle.figures.specs.declared.copies.JobCopy.{JobCopy}
 use Rattle.rack.specs.declared.placement.Placement.{Placement}
 use Rattle.rack.specs.declared.placement.Status.{Status}
 use Rattle.rack.specs.declared.placement.Status.TheVariants.{Passive, Active}
-use Rattle.figures.specs.declared.copies.Role.TheVariants.{Primary, Standby}
+use Rattle.figures.specs.declared.copies.Role.TheVariants.{Standby}
 use Rattle.rack.specs.Plan.{active}
 use Rattle.rack.specs.Sets.{copy_of, gather, quiet_part, passive_late, standby_copy, loss_part}
 use Rattle.terms.specs.declared.terms.Terms.{Terms}

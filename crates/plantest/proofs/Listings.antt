@@ -1,11 +1,11 @@
 -- Lists of placements that are plans.
-use Rattle.std.proofs.Common.{◌≡◌, ℕ, zero, suc, ◌+◌, ◌<◌, ◌≤◌, Bool, true, false, not, ◌&&◌, ◌||◌, eqb, ltb, leb, ◌⊎◌, List, [], ◌∷◌, length, get_or, take, drop, sym, refl, ap, ◌∙◌, subst, inl, inr, ⊎_elim, le_of_suc-le-suc, not-suc-le-zero, add-one, arith, drop-cons}
+use Rattle.std.proofs.Common.{◌≡◌, ℕ, zero, suc, ◌+◌, ◌<◌, ◌≤◌, true, false, not, ◌&&◌, eqb, List, [], ◌∷◌, length, get_or, take, drop, sym, refl, ap, ◌∙◌, inl, inr, le_of_suc-le-suc, not-suc-le-zero, add-one, drop-cons}
 use Rattle.std.proofs.lemmas.List.{drop_all}
-use Rattle.std.proofs.lemmas.Bool.{and_from, and_parts, both_ways, eq-eqb, eqb-true, ne_eqb, eqb-false, or_parts, or_left, or_right, or_from, not-true, not_from_false, leb-true, le-leb, ltb-true, lt-ltb}
+use Rattle.std.proofs.lemmas.Bool.{and_from, and_parts, both_ways, eq-eqb, ne_eqb, eqb-false, or_parts, or_left, or_right, or_from, not-true, not_from_false, leb-true, le-leb, ltb-true, lt-ltb}
 use Rattle.rack.specs.declared.placement.Placement.{Placement}
-use Rattle.rack.specs.Plan.{In, number, Once, Placed, Arranged, Plan}
+use Rattle.rack.specs.Plan.{In, number, Once, Placed, Plan}
 use Rattle.rack.proofs.Tested.{all_of_each, each_all_of}
-use Rattle.roster.specs.Rising.{placed, all_placed}
+use Rattle.roster.specs.Rising.{placed}
 use Rattle.plantest.specs.PlanTest.{has_number, each_once, is_plan}
 
 -- a job that is there is found

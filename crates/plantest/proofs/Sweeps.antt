@@ -1,18 +1,17 @@
 -- The sweep, step by step, and that it is the plan test.
-use Rattle.std.proofs.Common.{◌≡◌, ℕ, zero, suc, ◌+◌, ◌<◌, max, Bool, true, false, cond, not, ◌&&◌, ◌||◌, eqb, List, [], ◌∷◌, ◌++◌, map, length, get_or, take, is_some, Some, None, Option, unwrap_or, sym, refl, ap, ◌∙◌, subst, ⊎_elim, le_of_suc-le-suc, not-suc-le-zero, add-one, arith}
+use Rattle.std.proofs.Common.{◌≡◌, ℕ, zero, suc, ◌+◌, ◌<◌, max, Bool, true, false, not, ◌&&◌, ◌||◌, eqb, List, [], ◌∷◌, ◌++◌, map, length, get_or, take, is_some, Some, Option, unwrap_or, sym, refl, ap, ◌∙◌, ⊎_elim, le_of_suc-le-suc, not-suc-le-zero, add-one}
 use Rattle.std.proofs.lemmas.Bool.{and_from, and_parts, and_left, and_right, both_ways, cases_eq, eq-eqb, eqb-true, ne_eqb}
 use Rattle.terms.specs.declared.terms.Terms.{Terms}
 use Rattle.figures.specs.declared.copies.JobCopy.{JobCopy}
 use Rattle.figures.specs.Figure.{figure_of}
 use Rattle.rack.specs.declared.placement.Placement.{Placement}
-use Rattle.rack.specs.Plan.{In, active, Arranged}
-use Rattle.rack.specs.Sets.{copy_of, primary_copy, standby_copy, quiet, quiet_figure, passive_late, loss}
-use Rattle.rack.specs.Test.{all_of, all_below, loss_figure, standby_figure, Fits, Passes, passes}
+use Rattle.rack.specs.Plan.{In, Arranged}
+use Rattle.rack.specs.Sets.{primary_copy, standby_copy, quiet, quiet_figure, passive_late, loss}
+use Rattle.rack.specs.Test.{all_of, all_below, loss_figure, standby_figure, Passes, passes}
 use Rattle.rack.proofs.Tested.{all_of_more, all_of_each, each_all_of, all_below_each, each_all_below, all_below_part_false, passes_means, passes_true}
-use Rattle.figures.specs.declared.copies.Role.TheVariants.{Primary, Standby}
 use Rattle.plantest.specs.Parts.{loss_with}
 use Rattle.plantest.specs.JobFigures.{largest_lost, lost_shown}
-use Rattle.plantest.specs.Sweep.{has_quiet, copies_fit, pair_fits, pair_passes, lost_passes, machine_passes, quiet_passes, sweep, late_fits, all_fit}
+use Rattle.plantest.specs.Sweep.{has_quiet, pair_fits, pair_passes, lost_passes, machine_passes, quiet_passes, sweep, late_fits, all_fit}
 use Rattle.plantest.proofs.Gathers.{loss_is}
 
 module _ (before : Terms → Terms → Bool) where

@@ -1,6 +1,6 @@
 -- The parts of a loss set, with each passive standby's lateness given.
-use Rattle.std.specs.Prelude.{ℕ, Bool, cond, not, ◌&&◌, List, [], ◌∷◌, ◌++◌, ◌==◌}
-use Rattle.figures.specs.declared.copies.Role.TheVariants.{Primary, Standby}
+use Rattle.std.specs.Prelude.{ℕ, cond, not, ◌&&◌, List, [], ◌∷◌, ◌++◌, ◌==◌}
+use Rattle.figures.specs.declared.copies.Role.TheVariants.{Standby}
 use Rattle.figures.specs.declared.copies.JobCopy.{JobCopy}
 use Rattle.rack.specs.declared.placement.Placement.{Placement}
 use Rattle.rack.specs.Plan.{active}

@@ -2,7 +2,6 @@
 use Rattle.std.specs.Prelude.{ℕ, Bool, true, false, not, ◌&&◌, ◌||◌, List, [], ◌∷◌, length, ◌==◌, nat_le}
 use Rattle.rack.specs.declared.placement.Placement.{Placement}
 use Rattle.rack.specs.Plan.{number}
-use Rattle.rack.specs.Test.{all_of}
 use Rattle.roster.specs.Rising.{all_placed}
 
 abbrev pub has_number : ℕ → List Placement → Bool

@@ -1,5 +1,7 @@
 // The plan test: whether every copy of a plan has its figures, under any precedence rule.
 // Uses the figures library by its contracts; knows no search order and no file.
+#![tactic(auto)]
+
 mod answering;
 mod check;
 mod gather;

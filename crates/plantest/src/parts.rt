@@ -3,7 +3,7 @@ ghost use Rattle.rack.specs.Sets.{quiet_figure};
 ghost use Rattle.plantest.specs.Sweep.{pair_with};
 
 use crate::answering::quiet_of;
-use crate::sweep::pair_fits;
+use crate::sweep::pair_fits_with;
 use crate::workspace::Workspace;
 use precedence::Precedence;
 use rack::Placement;
@@ -37,5 +37,5 @@ pub fn pair_passes<R: Precedence>(
     if lates.len() != placements.len() {
         return false;
     }
-    pair_fits(rule, placements, lates, g, f, &mut space.copies)
+    pair_fits_with(rule, placements, lates, g, f, &mut space.copies)
 }

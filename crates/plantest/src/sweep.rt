@@ -3,7 +3,7 @@ ghost use Rattle.figures.specs.declared.copies.Role.TheVariants.{Standby};
 ghost use Rattle.rack.specs.Plan.{active};
 ghost use Rattle.rack.specs.Sets.{copy_of, passive_late};
 ghost use Rattle.plantest.specs.Parts.{loss_with};
-ghost use Rattle.plantest.specs.Sweep.{all_fit, copies_fit, lost_passes, machine_passes, quiet_passes};
+ghost use Rattle.plantest.specs.Sweep.{all_fit, copies_fit, lost_passes, machine_passes, pair_passes, quiet_passes};
 
 use crate::gather::{gather_loss, gather_quiet, primary_copy};
 use figures::{JobCopy, Role, figure};
@@ -65,7 +65,7 @@ pub(crate) fn quiet_figures<R: Precedence>(
 
 // Whether every copy in the loss set of g when f stops has its figure there, with each placement's passive
 // lateness given.
-pub(crate) fn pair_fits<R: Precedence>(
+pub(crate) fn pair_fits_with<R: Precedence>(
     rule: &R,
     placements: &[Placement],
     lates: &[u32],
@@ -85,6 +85,23 @@ pub(crate) fn pair_fits<R: Precedence>(
         }
     }
     true
+}
+
+// Whether every copy in the loss set of g when f stops has its figure there.
+fn pair_fits<R: Precedence>(
+    rule: &R,
+    placements: &[Placement],
+    lates: &[u32],
+    g: u8,
+    f: u8,
+    copies: &mut Vec<JobCopy>,
+) -> bool
+    requires room { 2 * length placements.now ≤ vec_capacity copies.old }
+    requires figures { lates.now ≡ map (passive_late (R.Precedence.before rule.now) placements.now) placements.now }
+    ensures test { result ≡ pair_passes (R.Precedence.before rule.now) placements.now g f }
+    ensures copies_kept { vec_capacity copies.new ≡ vec_capacity copies.old }
+{
+    pair_fits_with(rule, placements, lates, g, f, copies)
 }
 
 // The same, but that g itself is none of the machines that may stop.

@@ -1,5 +1,7 @@
 // Who goes before whom: the precedence trait with its laws, and the three supplied rules.
 // Knows jobs by their terms alone. A new rule is one more impl; nothing else changes.
+#![tactic(auto)]
+
 mod deadline;
 mod period;
 mod precedence;

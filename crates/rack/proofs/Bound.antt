@@ -1,5 +1,5 @@
 -- The bound: a copy that is never dropped finishes within its window, on a machine that a set of copies describes.
-use Rattle.std.proofs.Common.{◌≡◌, ℕ, zero, suc, ◌+◌, ◌-◌, ◌*◌, ◌<◌, ◌≤◌, min, Bool, true, false, cond, not, ◌&&◌, eqb, leb, ◌⊎◌, List, [], ◌∷◌, sym, refl, ap, ◌∙◌, subst, inl, inr, ⊎_elim, mul-le-mul_right, arith}
+use Rattle.std.proofs.Common.{◌≡◌, ℕ, zero, suc, ◌+◌, ◌-◌, ◌*◌, ◌<◌, ◌≤◌, Bool, true, false, cond, not, ◌&&◌, eqb, leb, ◌⊎◌, List, [], ◌∷◌, sym, refl, ap, ◌∙◌, subst, inl, inr, ⊎_elim, mul-le-mul_right, arith}
 use Rattle.std.proofs.lemmas.Bool.{cases_lt, cases_Bool, eq-eqb, eqb-true, and_from, and_parts, cond-true, cond-false, both_ways, le-leb, leb-true}
 use Rattle.terms.specs.declared.terms.Terms.{Terms}
 use Rattle.precedence.specs.Laws.{Laws}
@@ -12,7 +12,7 @@ use Rattle.rack.specs.declared.placement.Status.{Status}
 use Rattle.rack.specs.declared.placement.Status.TheVariants.{Passive, Active}
 use Rattle.rack.specs.declared.placement.Placement.{Placement}
 use Rattle.rack.specs.Plan.{In, number, active, machine, Once, Placed, Arranged}
-use Rattle.rack.specs.Day.{Day, invoked, late, work, Stop, no_stop, stops, halted}
+use Rattle.rack.specs.Day.{Day, invoked, work, Stop, no_stop, stops, halted}
 use Rattle.rack.specs.Run.{Slot, idle, runs, Run, sum_to, hit, worked, Finished, StandbyReleased, Released, dropped, Ready, Keeps}
 use Rattle.rack.specs.Sets.{copy_of}
 use Rattle.rack.proofs.SumLaws.{sum_add, sum_swap, sum_most, sum_least, sum_split, sum_one, sum_cond_le, sum_over, sum_over_swap, sum_over_one, window_low, window_high}

@@ -16,7 +16,7 @@ use Rattle.rack.specs.Plan.{In, number, active, machine, Placed, Arranged}
 use Rattle.rack.specs.Day.{Day, invoked, due, late, work, Stop, no_stop, stops, Within, halted}
 use Rattle.rack.specs.Run.{Run, worked, Finished, Wakes, StandbyReleased, Released, dropped, Keeps}
 use Rattle.rack.specs.Sets.{copy_of, primary_copy, gather, quiet_part, quiet, passive_late, standby_late, standby_copy, loss_part, loss}
-use Rattle.rack.specs.Test.{Fits, Passes}
+use Rattle.rack.specs.Test.{Passes}
 use Rattle.rack.specs.Covered.{Served}
 use Rattle.rack.proofs.Bound.{worked_mono, Described, finished_within}
 

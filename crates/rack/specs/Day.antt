@@ -1,5 +1,5 @@
 -- A day: when each job is first called up, and how late and how long each copy of each call-up is. Then, what stops.
-use Rattle.std.specs.Prelude.{◌≡◌, ℕ, ◌+◌, ◌*◌, ◌<◌, min, max, Bool, false, ◌&&◌, ◌==◌, nat_le}
+use Rattle.std.specs.Prelude.{ℕ, ◌+◌, ◌*◌, ◌<◌, min, max, Bool, false, ◌&&◌, ◌==◌, nat_le}
 use Rattle.terms.specs.declared.terms.Terms.{Terms}
 use Rattle.figures.specs.declared.copies.Role.{Role}
 use Rattle.figures.specs.Demand.{run_of}

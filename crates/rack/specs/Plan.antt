@@ -1,6 +1,5 @@
 -- What a plan is: each job once, on two different machines of the rack.
 use Rattle.std.specs.Prelude.{◌≡◌, ℕ, ◌<◌, ◌≤◌, Bool, true, false, ◌⊎◌, List, [], ◌∷◌, length, ◌≢◌}
-use Rattle.terms.specs.declared.terms.Terms.{Terms}
 use Rattle.figures.specs.declared.copies.Role.{Role}
 use Rattle.figures.specs.declared.copies.Role.TheVariants.{Primary, Standby}
 use Rattle.rack.specs.declared.placement.Status.{Status}

@@ -1,5 +1,5 @@
 -- The plan test.
-use Rattle.std.specs.Prelude.{◌≡◌, ℕ, zero, suc, ◌<◌, Bool, true, false, ◌&&◌, ◌||◌, List, [], ◌∷◌, is_some, Option, ◌==◌, ◌≢◌}
+use Rattle.std.specs.Prelude.{◌≡◌, ℕ, zero, suc, ◌<◌, Bool, true, ◌&&◌, ◌||◌, List, [], ◌∷◌, is_some, Option, ◌==◌, ◌≢◌}
 use Rattle.terms.specs.declared.terms.Terms.{Terms}
 use Rattle.figures.specs.Figure.{figure_of}
 use Rattle.rack.specs.declared.placement.Placement.{Placement}

@@ -1,6 +1,6 @@
 -- A machine on which a job's primary leaves some quiet figure missing fails for every standby and status.
-use Rattle.std.proofs.Common.{◌≡◌, ℕ, Bool, true, false, cond, not, ◌&&◌, eqb, ltb, List, [], ◌∷◌, ◌++◌, is_some, Some, None, sym, refl, ap, ◌∙◌, inl, inr, ⊎_elim}
-use Rattle.std.proofs.lemmas.Bool.{and_left, and_right, both_ways, cases_Bool, cond-true, cond-false, eq-eqb, eqb-true, not_from_false, or_left, or_right}
+use Rattle.std.proofs.Common.{◌≡◌, ℕ, Bool, true, false, cond, not, ◌&&◌, eqb, ltb, List, [], ◌∷◌, ◌++◌, is_some, Some, None, sym, refl, ap, ◌∙◌, ⊎_elim}
+use Rattle.std.proofs.lemmas.Bool.{and_right, both_ways, cases_Bool, cond-true, cond-false, eq-eqb, eqb-true, not_from_false, or_left, or_right}
 use Rattle.terms.specs.declared.terms.Terms.{Terms}
 use Rattle.figures.specs.declared.copies.JobCopy.{JobCopy}
 use Rattle.figures.specs.declared.copies.Role.TheVariants.{Primary, Standby}
@@ -8,8 +8,8 @@ use Rattle.figures.specs.Figure.{figure_of}
 use Rattle.rack.specs.declared.placement.Status.{Status}
 use Rattle.rack.specs.declared.placement.Status.TheVariants.{Passive, Active}
 use Rattle.rack.specs.declared.placement.Placement.{Placement}
-use Rattle.rack.specs.Plan.{In, number, active}
-use Rattle.rack.specs.Sets.{copy_of, primary_copy, gather, quiet_part, quiet, quiet_figure}
+use Rattle.rack.specs.Plan.{number, active}
+use Rattle.rack.specs.Sets.{copy_of, primary_copy, gather, quiet_part, quiet}
 use Rattle.rack.specs.Test.{all_of, passes}
 use Rattle.rack.proofs.Tested.{each_all_of, passes_means}
 use Rattle.roster.specs.Changes.{with_job, addable}
@@ -17,7 +17,7 @@ use Rattle.roster.proofs.Jobs.{in_with_job, with_job_has, with_job_keeps}
 use Rattle.plantest.specs.Sweep.{has_quiet}
 use Rattle.search.specs.Choices.{placement_of, chosen_or, first_standby, first_with}
 use Rattle.search.specs.Room.{quiet_on}
-use Rattle.search.specs.Trying.{tried, tried_at}
+use Rattle.search.specs.Trying.{tried_at}
 
 -- two jobs of one number that add the same leave the same gathered
 gather_swap :

@@ -1,14 +1,14 @@
 -- What a further job can change in a plan that passes: testing that alone is the plan test.
-use Rattle.std.proofs.Common.{◌≡◌, ℕ, ◌<◌, Bool, true, false, cond, not, ◌&&◌, ◌||◌, eqb, ltb, ◌⊎◌, List, [], ◌∷◌, ◌++◌, length, is_some, unwrap_or, sym, refl, ap, ◌∙◌, subst, inl, inr, ⊎_elim, append-nil}
-use Rattle.std.proofs.lemmas.Bool.{and_from, and_parts, and_cases, and_left, both_ways, cases_Bool, cases_eq, cond_both, cond-true, cond-false, eq-eqb, eqb-true, ne_eqb, not-true, not-false, not_from_true, not_from_false, or_cases, or_parts, or_left, or_right}
+use Rattle.std.proofs.Common.{◌≡◌, ℕ, ◌<◌, Bool, true, false, cond, not, ◌&&◌, ◌||◌, eqb, ltb, List, [], ◌∷◌, ◌++◌, length, is_some, unwrap_or, sym, refl, ap, ◌∙◌, inl, inr, ⊎_elim, append-nil}
+use Rattle.std.proofs.lemmas.Bool.{and_from, and_parts, and_cases, both_ways, cases_Bool, cases_eq, cond_both, cond-true, cond-false, eq-eqb, eqb-true, not-true, not_from_false, or_cases, or_parts, or_left, or_right}
 use Rattle.terms.specs.declared.terms.Terms.{Terms}
 use Rattle.figures.specs.declared.copies.JobCopy.{JobCopy}
 use Rattle.figures.specs.declared.copies.Role.TheVariants.{Standby}
 use Rattle.figures.specs.Figure.{figure_of}
 use Rattle.rack.specs.declared.placement.Placement.{Placement}
-use Rattle.rack.specs.Plan.{In, number, active, Arranged, Placed}
+use Rattle.rack.specs.Plan.{In, number, active, Arranged}
 use Rattle.rack.specs.Sets.{copy_of, primary_copy, gather, quiet_part, quiet, quiet_figure, passive_late, standby_late, standby_copy, loss_part, loss}
-use Rattle.rack.specs.Test.{all_of, all_below, passes, Passes}
+use Rattle.rack.specs.Test.{passes}
 use Rattle.rack.proofs.Tested.{all_of_each, each_all_of, all_below_each, each_all_below, passes_means, passes_true}
 use Rattle.rack.proofs.Parts.{fewer_pass}
 use Rattle.roster.specs.Changes.{find, with_job, addable}

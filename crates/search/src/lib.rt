@@ -1,5 +1,7 @@
 // The first choice of machines and status for a job with which the plan passes, found by testing only what a
 // choice can change. Knows rosters and the plan test by their contracts; knows no search order and no file.
+#![tactic(auto)]
+
 mod beside;
 mod choices;
 mod knowing;

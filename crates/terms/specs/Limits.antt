@@ -1,5 +1,5 @@
 -- The limits that a job's numbers must keep to be terms.
-use Rattle.std.specs.Prelude.{ℕ, ◌+◌, ◌≤◌, Bool, ◌&&◌, nat_le}
+use Rattle.std.specs.Prelude.{◌+◌, ◌≤◌, Bool, ◌&&◌, nat_le}
 use Rattle.terms.specs.declared.draft.Draft.{Draft}
 
 pub record Lawful (d : Draft) : Type 0 where

@@ -1,10 +1,11 @@
 // One task from start to end, told step by step for support staff.
+#![tactic(auto)]
+
 mod longtable;
 mod machine;
 mod office;
 mod rack_plan;
 mod refusals;
-mod travel;
 
 use std::io;
 
@@ -19,7 +20,5 @@ fn main(rt: HostRuntime) -> io::Result<()> {
     println!(rt; "")?;
     rack_plan::tell(&rt)?;
     println!(rt; "")?;
-    office::tell(&rt)?;
-    println!(rt; "")?;
-    travel::tell(&rt)
+    office::tell(&rt)
 }

@@ -8,6 +8,7 @@ use Rattle.cases.proofs.each_row_holds.Goals as goal
 pub returns : goal.returns
 unfolding body_of placement_of draft_at
 returns c = record {
-  hold = refl;
+  worked = refl;
+  filed = refl;
   run = λ before laws m ps plan day stop. (played_keeps before laws m ps plan day stop, the_run before laws m ps plan day stop);
 }

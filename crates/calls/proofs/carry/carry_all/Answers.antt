@@ -1,9 +1,8 @@
-use Rattle.std.proofs.Common.{◌≡◌, ℕ, ◌+◌, ◌<◌, Bool, List, [], ◌∷◌, ◌++◌, length, get_or, take, drop, set, vec_items, sym, refl, ap, ◌∙◌, subst, arith, length-set, take_all}
+use Rattle.std.proofs.Common.{◌≡◌, ℕ, ◌<◌, Bool, List, [], ◌∷◌, ◌++◌, length, get_or, take, drop, vec_items, sym, refl, ap, ◌∙◌, subst, arith, length-set, take_all}
 use Rattle.terms.specs.declared.terms.Terms.{Terms}
 use Rattle.plantest.specs.Verdicts.{Safe}
 use Rattle.calls.specs.declared.call.Call.{Call}
 use Rattle.calls.specs.declared.call.Call.TheVariants.{Place}
-use Rattle.calls.specs.declared.answer.Answer.{Answer}
 use Rattle.calls.specs.Calls.{State, state, answer_of, after, after_all, answers_of}
 use Rattle.calls.specs.Carrying.{Right, Holds}
 use Rattle.calls.proofs.More.{after_more, answers_more, holds_more, stored, later_stay}

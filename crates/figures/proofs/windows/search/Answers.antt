@@ -1,4 +1,4 @@
-use Rattle.std.proofs.Common.{◌≡◌, ℕ, ◌≤◌, arith}
+use Rattle.std.proofs.Common.{ℕ, arith}
 use mathlib.Core.Path.{subst⁻¹}
 use Rattle.figures.specs.Demand.{demand}
 use Rattle.figures.proofs.Demands.{demand_mono}

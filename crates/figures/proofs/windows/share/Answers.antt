@@ -1,4 +1,4 @@
-use Rattle.std.proofs.Common.{◌≡◌, ◌+◌, ◌-◌, ◌*◌, ◌/◌, ◌≤◌, mul-le-mul, div-le_self, arith, rules}
+use Rattle.std.proofs.Common.{◌+◌, ◌-◌, ◌*◌, ◌≤◌, mul-le-mul, div-le_self, arith, rules}
 use Rattle.figures.proofs.windows.share.Goals as goal
 
 work_small : (c : goal.After-releases) → c.from.result * c.releases.result ≤ 5000000000000000

@@ -1,4 +1,4 @@
-use Rattle.std.proofs.Common.{◌≡◌, vec_items, ap, ◌∙◌}
+use Rattle.std.proofs.Common.{vec_items, ap, ◌∙◌}
 use Rattle.planfile.specs.Judging.{with_placements}
 use Rattle.planner.proofs.Adopts.{held_holdable}
 use Rattle.planner.proofs.Taking.{held_in}

@@ -1,4 +1,4 @@
-use Rattle.std.proofs.Common.{◌≡◌, ℕ, vec_items, sym, refl, ap, ◌∙◌, subst}
+use Rattle.std.proofs.Common.{vec_items, sym, ap, ◌∙◌, subst}
 use Rattle.rack.specs.Test.{Passes}
 use Rattle.rack.proofs.Tested.{passes_means}
 use Rattle.roster.specs.declared.roster.Roster.{Roster}

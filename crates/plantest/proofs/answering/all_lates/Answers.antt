@@ -1,4 +1,4 @@
-use Rattle.std.proofs.Common.{◌≡◌, map, ap, ◌∙◌, arith, take_all}
+use Rattle.std.proofs.Common.{map, ap, ◌∙◌, arith, take_all}
 use Rattle.rack.specs.Sets.{passive_late}
 use Rattle.plantest.proofs.Sweeps.{map_more}
 use Rattle.plantest.proofs.answering.all_lates.Goals as goal

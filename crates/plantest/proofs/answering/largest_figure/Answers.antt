@@ -1,4 +1,4 @@
-use Rattle.std.proofs.Common.{◌≡◌, max, sym, refl, ap, ◌∙◌, arith}
+use Rattle.std.proofs.Common.{◌≡◌, ap, ◌∙◌, arith}
 use Rattle.plantest.specs.JobFigures.{largest_lost}
 use Rattle.plantest.proofs.Sweeps.{largest_more}
 use Rattle.plantest.proofs.answering.largest_figure.Goals as goal

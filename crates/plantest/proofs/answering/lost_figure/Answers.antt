@@ -1,4 +1,4 @@
-use Rattle.std.proofs.Common.{◌≡◌, eqb, sym, ap, ◌∙◌}
+use Rattle.std.proofs.Common.{eqb, sym, ap, ◌∙◌}
 use Rattle.std.proofs.lemmas.Bool.{cond-false, ne_eqb}
 use Rattle.rack.specs.Sets.{primary_copy}
 use Rattle.rack.specs.Test.{loss_figure}

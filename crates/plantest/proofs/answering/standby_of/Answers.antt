@@ -1,4 +1,4 @@
-use Rattle.std.proofs.Common.{◌≡◌, cond, sym, ap, ◌∙◌}
+use Rattle.std.proofs.Common.{cond, ap, ◌∙◌}
 use Rattle.figures.specs.declared.copies.Role.TheVariants.{Standby}
 use Rattle.rack.specs.Plan.{active}
 use Rattle.rack.specs.Sets.{copy_of, standby_copy}

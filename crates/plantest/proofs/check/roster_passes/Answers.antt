@@ -1,4 +1,4 @@
-use Rattle.std.proofs.Common.{◌≡◌, ℕ, List, length, vec_items, sym, ap, subst, subst₂, arith}
+use Rattle.std.proofs.Common.{ℕ, List, length, vec_items, sym, ap, subst₂, arith}
 use Rattle.rack.specs.declared.placement.Placement.{Placement}
 use Rattle.rack.specs.Plan.{Arranged}
 use Rattle.roster.proofs.Ordered.{roster_arranged}

@@ -1,4 +1,4 @@
-use Rattle.std.proofs.Common.{◌≡◌, vec_items, ◌∙◌, append_assoc, arith}
+use Rattle.std.proofs.Common.{vec_items, ◌∙◌, append_assoc, arith}
 use Rattle.rack.specs.Sets.{quiet_part}
 use Rattle.plantest.specs.Parts.{passive_part}
 use Rattle.plantest.proofs.gather.add_loss.Goals as goal

@@ -1,5 +1,4 @@
-use Rattle.std.proofs.Common.{◌≡◌, get_or, refl, ◌∙◌, arith, take_all}
-use Rattle.plantest.specs.Parts.{loss_with}
+use Rattle.std.proofs.Common.{get_or, refl, ◌∙◌, arith, take_all}
 use Rattle.plantest.proofs.Gathers.{loss_more}
 use Rattle.plantest.proofs.gather.gather_loss.Goals as goal
 

@@ -1,4 +1,4 @@
-use Rattle.std.proofs.Common.{◌≡◌, ap, ◌∙◌, arith, take_all}
+use Rattle.std.proofs.Common.{ap, ◌∙◌, arith, take_all}
 use Rattle.rack.specs.Sets.{quiet, quiet_part}
 use Rattle.plantest.proofs.Gathers.{gather_more}
 use Rattle.plantest.proofs.gather.gather_quiet.Goals as goal

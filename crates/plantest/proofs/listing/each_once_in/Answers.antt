@@ -1,4 +1,4 @@
-use Rattle.std.proofs.Common.{◌≡◌, ◌+◌, Bool, not, ◌&&◌, drop, sym, ap, ◌∙◌}
+use Rattle.std.proofs.Common.{◌+◌, not, ◌&&◌, drop, sym, ap, ◌∙◌}
 use Rattle.plantest.specs.PlanTest.{each_once, has_number}
 use Rattle.rack.specs.Plan.{number}
 use Rattle.plantest.proofs.Listings.{once_from, once_end}

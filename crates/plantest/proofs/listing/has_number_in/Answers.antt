@@ -1,4 +1,4 @@
-use Rattle.std.proofs.Common.{◌≡◌, sym, ap, ◌∙◌, take_all}
+use Rattle.std.proofs.Common.{sym, ap, ◌∙◌, take_all}
 use Rattle.rack.proofs.Tested.{in_at}
 use Rattle.plantest.specs.PlanTest.{has_number}
 use Rattle.plantest.proofs.Listings.{has_it, has_not_more}

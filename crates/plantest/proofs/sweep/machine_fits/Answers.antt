@@ -1,4 +1,4 @@
-use Rattle.std.proofs.Common.{◌≡◌, sym, ◌∙◌}
+use Rattle.std.proofs.Common.{sym, ◌∙◌}
 use Rattle.std.proofs.lemmas.Bool.{and_from}
 use Rattle.rack.proofs.Tested.{all_below_more, all_below_part_false}
 use Rattle.plantest.specs.Sweep.{lost_passes}

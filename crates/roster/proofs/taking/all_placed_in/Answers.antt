@@ -1,4 +1,4 @@
-use Rattle.std.proofs.Common.{◌≡◌, sym, ap, ◌∙◌, take_all}
+use Rattle.std.proofs.Common.{sym, ap, ◌∙◌, take_all}
 use Rattle.std.proofs.lemmas.Bool.{and_from}
 use Rattle.rack.proofs.Tested.{in_at, all_of_more, all_of_part_false}
 use Rattle.roster.specs.Rising.{placed, all_placed}

@@ -1,4 +1,4 @@
-use Rattle.std.proofs.Common.{◌≡◌, sym, ap, ◌∙◌, take_all}
+use Rattle.std.proofs.Common.{sym, ap, ◌∙◌, take_all}
 use Rattle.std.proofs.lemmas.Bool.{or_from}
 use Rattle.rack.proofs.Tested.{in_at}
 use Rattle.search.specs.Beside.{any_of, asks}

@@ -1,4 +1,4 @@
-use Rattle.std.proofs.Common.{◌≡◌, ◌&&◌, length, vec_items, ap, ◌∙◌}
+use Rattle.std.proofs.Common.{◌&&◌, length, vec_items, ap, ◌∙◌}
 use Rattle.std.proofs.lemmas.Bool.{eq-eqb}
 use Rattle.plantest.specs.Parts.{loss_with}
 use Rattle.plantest.specs.Sweep.{all_fit}

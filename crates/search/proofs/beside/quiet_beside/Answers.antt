@@ -1,6 +1,6 @@
 use Rattle.std.proofs.Common.{◌≡◌, ◌<◌, ◌≤◌, map, length, get_or, is_some, Some, None, vec_items, sym, refl, ap, ◌∙◌, arith, take_all}
 use Rattle.std.proofs.lemmas.Bool.{both_ways}
-use Rattle.rack.specs.Sets.{quiet_figure, passive_late}
+use Rattle.rack.specs.Sets.{passive_late}
 use Rattle.rack.specs.Test.{all_of}
 use Rattle.rack.proofs.Tested.{in_at, all_of_part_false}
 use Rattle.plantest.specs.Sweep.{has_quiet}

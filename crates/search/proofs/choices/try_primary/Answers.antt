@@ -1,4 +1,4 @@
-use Rattle.std.proofs.Common.{◌≡◌, ℕ, List, None, vec_items, sym, refl, ap, ◌∙◌}
+use Rattle.std.proofs.Common.{ℕ, List, None, vec_items, sym, refl, ap, ◌∙◌}
 use Rattle.rack.specs.declared.placement.Placement.{Placement}
 use Rattle.search.specs.Choices.{first_with}
 use Rattle.search.specs.Trying.{tried_at, choice_jobs}

@@ -1,4 +1,4 @@
-use Rattle.std.proofs.Common.{◌≡◌, List, vec_items, sym, ap, ◌∙◌}
+use Rattle.std.proofs.Common.{List, vec_items, sym, ap, ◌∙◌}
 use Rattle.rack.specs.declared.placement.Placement.{Placement}
 use Rattle.rack.specs.declared.placement.Status.TheVariants.{Passive}
 use Rattle.rack.specs.Test.{all_of}

@@ -1,0 +1,51 @@
+use Rattle.std.proofs.Common.{not, ◌&&◌, eqb, get_or, vec_items, sym, ap, ◌∙◌}
+use Rattle.roster.specs.Changes.{with_job}
+use Rattle.search.specs.Choices.{placement_of}
+use Rattle.search.specs.Trying.{tried_at}
+use Rattle.search.proofs.Firsts.{standby_here, standby_more, standby_end}
+use Rattle.planner.proofs.search.try_standbys.Goals as goal
+
+pub returns-then-try_apart : goal.returns-then-try_apart
+returns-then-try_apart g c =
+    let b = g.R.Precedence.before c.args.rule.now in
+    let r = c.args.roster.now in
+    let ps = vec_items r.placements in
+    let test = tried_at b r.machines ps c.args.terms c.args.primary c.args.status in
+    let took = c.if-try_apart.ensures in
+    let x = get_or c.args.turns.now c.loop-i.i 0 in
+    let items = c.loop-i.invariant.0 in
+    let count = c.loop-i.invariant.1 in
+    let there = vec_items c.loop-i.roster.placements in
+    let same =
+    ap (λ k. not (eqb x c.args.primary) && tried_at b k there c.args.terms c.args.primary c.args.status x) count
+    ∙ ap (λ qs. not (eqb x c.args.primary) && tried_at b r.machines qs c.args.terms c.args.primary c.args.status x) items in
+    let first = standby_here test c.args.primary c.args.turns.now c.loop-i.i c.loop-i-test.true (sym (took.test ∙ same)) in
+    record { chosen = sym (c.loop-i.invariant.2 ∙ first); jobs = took.jobs ∙ ap (with_job (placement_of c.args.terms c.args.primary x c.args.status)) items; machines = took.machines ∙ count }
+
+pub loop-i-preserved : goal.loop-i-preserved
+loop-i-preserved g c =
+    let b = g.R.Precedence.before c.args.rule.now in
+    let r = c.args.roster.now in
+    let ps = vec_items r.placements in
+    let test = tried_at b r.machines ps c.args.terms c.args.primary c.args.status in
+    let took = c.if-try_apart.ensures in
+    let x = get_or c.args.turns.now c.loop-i.i 0 in
+    let items = c.loop-i.invariant.0 in
+    let count = c.loop-i.invariant.1 in
+    let there = vec_items c.loop-i.roster.placements in
+    let same =
+    ap (λ k. not (eqb x c.args.primary) && tried_at b k there c.args.terms c.args.primary c.args.status x) count
+    ∙ ap (λ qs. not (eqb x c.args.primary) && tried_at b r.machines qs c.args.terms c.args.primary c.args.status x) items in
+    let more = standby_more test c.args.primary c.args.turns.now c.loop-i.i c.loop-i-test.true (sym (took.test ∙ same)) in
+    (took.jobs ∙ items, took.machines ∙ count, c.loop-i.invariant.2 ∙ more)
+
+pub returns : goal.returns
+returns g c =
+    let b = g.R.Precedence.before c.args.rule.now in
+    let r = c.args.roster.now in
+    let test = tried_at b r.machines (vec_items r.placements) c.args.terms c.args.primary c.args.status in
+    record {
+      chosen = sym (c.loop-i.invariant.2 ∙ standby_end test c.args.primary c.args.turns.now c.loop-i.i c.loop-i-test.false);
+      jobs = c.loop-i.invariant.0;
+      machines = c.loop-i.invariant.1;
+    }
