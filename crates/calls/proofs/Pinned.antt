@@ -14,7 +14,7 @@ use Rattle.roster.specs.Changes.{with_job}
 use Rattle.roster.specs.Rising.{placed}
 use Rattle.roster.proofs.Ordered.{placed_here}
 use Rattle.plantest.proofs.Listings.{placed_true}
-use Rattle.search.specs.Choices.{Choice, placement_of, passes_beside}
+use Rattle.first_fit.specs.Choices.{Choice, placement_of, passes_beside}
 use Rattle.planner.specs.Answers.{status_number, status_of, admitted, pinned, pin_admitted, pin_choice, pin_jobs, jobs_with, done}
 use Rattle.calls.specs.Said.{said_done, refusal_number}
 use Rattle.calls.specs.Calls.{State, state}

@@ -18,7 +18,7 @@ use Rattle.roster.specs.Loads.{loads}
 use Rattle.roster.proofs.Jobs.{find_none, find_not, without_part, without_keeps}
 use Rattle.plantest.specs.JobFigures.{shown, largest_lost}
 use Rattle.plantest.specs.Verdicts.{Safe}
-use Rattle.search.specs.Choices.{Choice, placement_of, passes_beside}
+use Rattle.first_fit.specs.Choices.{Choice, placement_of, passes_beside}
 use Rattle.planner.specs.Answers.{status_number, is_count, withdraw_answer, admitted, admitted_terms, first_passing, chosen, place_admitted, place_answer, jobs_with, place_jobs, pin_jobs}
 use Rattle.planner.specs.Refused.{PlaceMeans}
 use Rattle.planner.specs.Figures.{figures_found}

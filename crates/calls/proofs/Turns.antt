@@ -4,7 +4,7 @@ use Rattle.std.proofs.lemmas.Bool.{both_ways}
 use Rattle.rack.specs.declared.placement.Status.{Status}
 use Rattle.rack.specs.declared.placement.Status.TheVariants.{Passive, Active}
 use Rattle.rack.specs.Plan.{In}
-use Rattle.search.specs.Choices.{Choice, first_standby, chosen_or, first_choice}
+use Rattle.first_fit.specs.Choices.{Choice, first_standby, chosen_or, first_choice}
 use Rattle.calls.specs.Turns.{standbys, with_primaries, First}
 
 abbrev or_else : Option Choice → Option Choice → Option Choice

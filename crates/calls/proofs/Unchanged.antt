@@ -10,7 +10,7 @@ use Rattle.rack.specs.Test.{passes}
 use Rattle.roster.specs.Changes.{find, without}
 use Rattle.filewriter.specs.Written.{file_of, file_length}
 use Rattle.planfile.specs.Judging.{plan_of}
-use Rattle.search.specs.Choices.{Choice}
+use Rattle.first_fit.specs.Choices.{Choice}
 use Rattle.planner.specs.Answers.{admitted, place_answer, pin_choice, jobs_with, done}
 use Rattle.planner.specs.Filed.{adopted, taken, write_bytes}
 use Rattle.calls.specs.declared.call.Call.{Call}

@@ -10,7 +10,7 @@ use Rattle.rack.specs.Sets.{quiet_figure}
 use Rattle.rack.specs.Test.{Passes, loss_figure, standby_figure}
 use Rattle.roster.specs.Changes.{with_job}
 use Rattle.roster.specs.Loads.{loads}
-use Rattle.search.specs.Choices.{Choice, placement_of}
+use Rattle.first_fit.specs.Choices.{Choice, placement_of}
 use Rattle.planner.specs.Answers.{status_number}
 use Rattle.planner.specs.Refused.{NoChoice, NoneBesideMore}
 use Rattle.calls.specs.Turns.{candidates, First}

@@ -3,7 +3,7 @@ use Rattle.std.specs.Prelude.{ℕ, List, [], ◌∷◌, Ok, Err, Result}
 use Rattle.terms.specs.declared.refusal.Refusal.{Refusal}
 use Rattle.terms.specs.Refusals.{number_of}
 use Rattle.planner.specs.Answers.{status_number}
-use Rattle.search.specs.Choices.{Choice}
+use Rattle.first_fit.specs.Choices.{Choice}
 use Rattle.calls.specs.declared.answer.Answer.{Answer}
 use Rattle.calls.specs.declared.answer.Answer.TheVariants.{Placed, Done, Figures, Written, Refused}
 

@@ -3,7 +3,7 @@ use Rattle.std.specs.Prelude.{◌≡◌, ℕ, cond, List, [], ◌∷◌, ◌++�
 use Rattle.rack.specs.declared.placement.Status.{Status}
 use Rattle.rack.specs.declared.placement.Status.TheVariants.{Passive, Active}
 use Rattle.rack.specs.Plan.{In}
-use Rattle.search.specs.Choices.{Choice}
+use Rattle.first_fit.specs.Choices.{Choice}
 
 -- one primary and one status, with each other machine as standby in turn
 abbrev pub standbys : ℕ → Status → List ℕ → List Choice

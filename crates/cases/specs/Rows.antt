@@ -18,7 +18,7 @@ use Rattle.rack.specs.Played.{played}
 use Rattle.terms.specs.declared.refusal.Refusal.{Refusal}
 use Rattle.terms.specs.Refusals.{number_of}
 use Rattle.orders.specs.Ascending.{ascending_turns}
-use Rattle.search.specs.Choices.{Choice}
+use Rattle.first_fit.specs.Choices.{Choice}
 use Rattle.planner.specs.Answers.{status_number, place_answer, pin_answer, withdraw_answer, open_answer}
 use Rattle.planner.specs.Figures.{figures_answer}
 use Rattle.planner.specs.Filed.{refused_with, adopt_answer, adopt_plan, write_answer, write_bytes}

@@ -1,7 +1,7 @@
 -- The list by load: each machine once, in order, each at the place of its rank.
 use Rattle.std.specs.Prelude.{◌≡◌, ℕ, zero, suc, ◌+◌, ◌<◌, ◌≤◌, Bool, true, false, cond, List, [], ◌∷◌, length, ◌==◌, ◌≢◌, nat_eq, slice_index_or, refl}
 use Rattle.std.proofs.Common.{⊎_elim, sym, ap, subst, ◌∙◌, not-suc-le-zero, add-one, arith}
-use Rattle.std.specs.List.{AllByRecursion as All}
+use Rattle.std.specs.List.{AllByRecursion}
 use Rattle.std.proofs.ByRecursion.{All-get_or, All-weaker}
 use Rattle.std.proofs.lemmas.List.{get_or_past}
 use Rattle.std.proofs.lemmas.Bool.{cases_eq, cases_lt, cond_both, ne_eqb, eq-eqb}
@@ -35,24 +35,24 @@ module _ (loads : List ℕ) where
   how_many_put test g (x ∷ xs) =
       cond_both (lighter loads g x) (g ∷ x ∷ xs) (x ∷ put loads g xs) (λ ys. how_many test ys ≡ cond (test g) 1 0 + how_many test (x ∷ xs)) (λ _. refl) (λ _. omega (arith, how_many_put test g xs))
 
-  all_put : (P : ℕ → Type 0) (g : ℕ) (xs : List ℕ) → P g → All P xs → All P (put loads g xs)
+  all_put : (P : ℕ → Type 0) (g : ℕ) (xs : List ℕ) → P g → AllByRecursion P xs → AllByRecursion P (put loads g xs)
   all_put P g [] p all = (p, tt)
   all_put P g (x ∷ xs) p all =
-      cond_both (lighter loads g x) (g ∷ x ∷ xs) (x ∷ put loads g xs) (All P) (λ _. (p, all)) (λ _. (all.0, all_put P g xs p all.1))
+      cond_both (lighter loads g x) (g ∷ x ∷ xs) (x ∷ put loads g xs) (AllByRecursion P) (λ _. (p, all)) (λ _. (all.0, all_put P g xs p all.1))
 
   -- each machine comes before all that stand after it
   abbrev Ordered : List ℕ → Type 0
   Ordered [] = Unit {0}
-  Ordered (x ∷ xs) = All (λ y. lighter loads x y ≡ true) xs × Ordered xs
+  Ordered (x ∷ xs) = AllByRecursion (λ y. lighter loads x y ≡ true) xs × Ordered xs
 
-  ordered_put : (g : ℕ) (xs : List ℕ) → All (λ x. x ≢ g) xs → Ordered xs → Ordered (put loads g xs)
+  ordered_put : (g : ℕ) (xs : List ℕ) → AllByRecursion (λ x. x ≢ g) xs → Ordered xs → Ordered (put loads g xs)
   ordered_put g [] new ord = (tt, tt)
   ordered_put g (x ∷ xs) new ord =
       cond_both (lighter loads g x) (g ∷ x ∷ xs) (x ∷ put loads g xs) Ordered
       (λ yes. ((yes, All-weaker (λ y. lighter loads x y ≡ true) (λ y. lighter loads g y ≡ true) (λ y h. onward g x y yes h) xs ord.0), ord))
       (λ no. (all_put (λ y. lighter loads x y ≡ true) g xs (else_back g x new.0 no) ord.0, ordered_put g xs new.1 ord.1))
 
-  all_below : (n : ℕ) → All (λ x. x < n) (by_load loads n)
+  all_below : (n : ℕ) → AllByRecursion (λ x. x < n) (by_load loads n)
   all_below zero = tt
   all_below (suc n) =
       all_put (λ x. x < suc n) n (by_load loads n) (omega arith) (All-weaker (λ x. x < n) (λ x. x < suc n) (λ x h. omega arith) (by_load loads n) (all_below n))
@@ -97,7 +97,7 @@ module _ (loads : List ℕ) where
   sorted n i j lt last = in_order (by_load loads n) i j (ordered n) lt (omega (arith, length_by_load n))
 
   -- as many come before a machine as stand before it
-  none_before : (g : ℕ) (xs : List ℕ) → All (λ y. lighter loads g y ≡ true) xs → how_many (λ x. lighter loads x g) xs ≡ 0
+  none_before : (g : ℕ) (xs : List ℕ) → AllByRecursion (λ y. lighter loads g y ≡ true) xs → how_many (λ x. lighter loads x g) xs ≡ 0
   none_before g [] all = refl
   none_before g (x ∷ xs) all =
       let e = not_back g x all.0 in rw e (omega (arith, none_before g xs all.1))

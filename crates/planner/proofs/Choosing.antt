@@ -18,11 +18,11 @@ use Rattle.roster.specs.Rising.{placed, rising}
 use Rattle.roster.proofs.Jobs.{in_with_job, find_none}
 use Rattle.roster.proofs.Ordered.{rising_once, rising_with_job}
 use Rattle.plantest.proofs.Listings.{placed_true}
-use Rattle.search.specs.Choices.{Choice, placement_of, passes_beside, first_choice}
+use Rattle.first_fit.specs.Choices.{Choice, placement_of, passes_beside, first_choice}
 use Rattle.planner.specs.Answers.{admitted_terms, chosen, jobs_with, pinned}
 use Rattle.planner.specs.Refused.{NoChoice, NoneBesideMore}
-use Rattle.search.specs.Trying.{tried, tried_at, choice_jobs, tried_first}
-use Rattle.search.proofs.Firsts.{choice_some, choice_none, choice_same}
+use Rattle.first_fit.specs.Trying.{tried, tried_at, choice_jobs, tried_first}
+use Rattle.first_fit.proofs.Firsts.{choice_some, choice_none, choice_same}
 
 -- what is not some is none
 is_none : (o : Option Placement) → is_some o ≡ false → o ≡ None

@@ -11,7 +11,7 @@ use Rattle.rack.specs.declared.placement.Placement.{Placement}
 use Rattle.roster.specs.Changes.{find, with_job}
 use Rattle.roster.specs.Rising.{placed}
 use Rattle.roster.specs.Loads.{loads}
-use Rattle.search.specs.Choices.{Choice, placement_of, passes_beside, first_choice}
+use Rattle.first_fit.specs.Choices.{Choice, placement_of, passes_beside, first_choice}
 
 -- a status by its number: 0 passive, 1 active
 abbrev pub status_number : Status → ℕ

@@ -10,7 +10,7 @@ use Rattle.rack.specs.Plan.{In, Arranged, Placed}
 use Rattle.rack.specs.Test.{Passes}
 use Rattle.rack.specs.Fewer.{Part}
 use Rattle.roster.specs.Changes.{with_job}
-use Rattle.search.specs.Choices.{Choice, placement_of}
+use Rattle.first_fit.specs.Choices.{Choice, placement_of}
 use Rattle.planner.specs.Answers.{admitted}
 
 -- a plan of these placements, the job so placed, and perhaps further ones of other jobs on the same machines

@@ -2,8 +2,8 @@ ghost use Rattle.std.specs.Prelude.{◌≡◌, if◌then◌else◌};
 ghost use Rattle.rack.specs.Test.{Passes};
 ghost use Rattle.roster.specs.Changes.{with_job};
 ghost use Rattle.planner.specs.Answers.{pin_answer, pin_jobs, status_of};
-ghost use Rattle.search.specs.Choices.{placement_of};
-ghost use Rattle.search.specs.Trying.{tried};
+ghost use Rattle.first_fit.specs.Choices.{placement_of};
+ghost use Rattle.first_fit.specs.Trying.{tried};
 
 use crate::admit::admit;
 use crate::plan::Plan;

@@ -2,7 +2,7 @@ ghost use Rattle.std.specs.Prelude.{◌≡◌};
 ghost use Rattle.rack.specs.Test.{Passes};
 ghost use Rattle.planner.specs.Answers.{chosen, place_answer, place_jobs};
 ghost use Rattle.planner.specs.Refused.{PlaceMeans};
-ghost use Rattle.search.specs.Trying.{choice_jobs, tried_first};
+ghost use Rattle.first_fit.specs.Trying.{choice_jobs, tried_first};
 
 use crate::admit::admit;
 use crate::plan::Plan;

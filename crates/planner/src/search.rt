@@ -1,6 +1,6 @@
 ghost use Rattle.std.specs.Prelude.{◌≡◌, not, ◌&&◌, if◌then◌else◌, None, ◌==◌};
-ghost use Rattle.search.specs.Choices.{first_standby, first_with};
-ghost use Rattle.search.specs.Trying.{choice_jobs, jobs_at, tried, tried_at, tried_first};
+ghost use Rattle.first_fit.specs.Choices.{first_standby, first_with};
+ghost use Rattle.first_fit.specs.Trying.{choice_jobs, jobs_at, tried, tried_at, tried_first};
 ghost use Rattle.roster.specs.Changes.{with_job, without};
 
 use plantest::{Workspace, roster_passes};

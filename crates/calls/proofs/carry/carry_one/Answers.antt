@@ -2,7 +2,7 @@ use Rattle.std.proofs.Common.{ℕ, vec_items, Result, sym, ap, ◌∙◌, subst}
 use Rattle.terms.specs.declared.refusal.Refusal.{Refusal}
 use Rattle.rack.specs.Test.{Passes}
 use Rattle.roster.specs.declared.roster.Roster.{Roster}
-use Rattle.search.specs.Choices.{Choice}
+use Rattle.first_fit.specs.Choices.{Choice}
 use Rattle.planner.specs.Refused.{PlaceMeans}
 use Rattle.calls.specs.declared.call.Call.{Call}
 use Rattle.calls.specs.Said.{said_placed, said_done, said_figures}

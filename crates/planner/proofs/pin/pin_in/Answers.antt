@@ -6,7 +6,7 @@ use Rattle.rack.specs.declared.placement.Placement.{Placement}
 use Rattle.rack.specs.Test.{Passes, passes}
 use Rattle.rack.proofs.Tested.{passes_means}
 use Rattle.roster.specs.Changes.{addable, with_job}
-use Rattle.search.specs.Choices.{placement_of}
+use Rattle.first_fit.specs.Choices.{placement_of}
 use Rattle.planner.specs.Answers.{done, jobs_with, pinned, pin_admitted, pin_choice}
 use Rattle.planner.proofs.Choosing.{admitted_free, pinned_is}
 use Rattle.planner.proofs.pin.pin_in.Goals as goal

@@ -7,7 +7,7 @@ use Rattle.rack.specs.Test.{Passes}
 use Rattle.roster.specs.Loads.{loads}
 use Rattle.planner.specs.Answers.{chosen, jobs_with, place_admitted, place_answer}
 use Rattle.planner.specs.Refused.{NoChoice, NoneBesideMore}
-use Rattle.search.specs.Trying.{tried_first}
+use Rattle.first_fit.specs.Trying.{tried_first}
 use Rattle.planner.proofs.Choosing.{admitted_free, jobs_chosen, chosen_refused, tried_same, no_choice, no_first, first_passes, none_beside_more}
 use Rattle.planner.proofs.place.place_in.Goals as goal
 

@@ -1,7 +1,7 @@
 use Rattle.std.proofs.Common.{vec_items, sym, ap, ◌∙◌}
 use Rattle.rack.specs.Plan.{number}
 use Rattle.roster.specs.Changes.{without}
-use Rattle.search.proofs.Tries.{tried_fails, in_and_out, addable_new}
+use Rattle.first_fit.proofs.Tries.{tried_fails, in_and_out, addable_new}
 use Rattle.planner.proofs.search.try_choice.Goals as goal
 
 pub returns : goal.returns

@@ -1,8 +1,8 @@
 use Rattle.std.proofs.Common.{get_or, None, vec_items, sym, ap, ◌∙◌}
 use Rattle.roster.specs.Changes.{with_job}
-use Rattle.search.specs.Choices.{placement_of, first_with}
-use Rattle.search.specs.Trying.{tried_at, tried_first}
-use Rattle.search.proofs.Firsts.{choice_here, choice_more, choice_end}
+use Rattle.first_fit.specs.Choices.{placement_of, first_with}
+use Rattle.first_fit.specs.Trying.{tried_at, tried_first}
+use Rattle.first_fit.proofs.Firsts.{choice_here, choice_more, choice_end}
 use Rattle.planner.proofs.search.try_primaries.Goals as goal
 
 pub returns-in-Some : goal.returns-in-Some

@@ -1,6 +1,6 @@
 use Rattle.std.proofs.Common.{◌≡◌, drop, vec_items}
-use Rattle.search.specs.Choices.{first_choice}
-use Rattle.search.specs.Trying.{tried_at}
+use Rattle.first_fit.specs.Choices.{first_choice}
+use Rattle.first_fit.specs.Trying.{tried_at}
 use Rattle.planner.proofs.search.try_primaries.Given as goal
 
 abbrev pub invariant-loop-i : goal.invariant-loop-i

@@ -1,8 +1,8 @@
 use Rattle.std.proofs.Common.{not, ◌&&◌, eqb, get_or, vec_items, sym, ap, ◌∙◌}
 use Rattle.roster.specs.Changes.{with_job}
-use Rattle.search.specs.Choices.{placement_of}
-use Rattle.search.specs.Trying.{tried_at}
-use Rattle.search.proofs.Firsts.{standby_here, standby_more, standby_end}
+use Rattle.first_fit.specs.Choices.{placement_of}
+use Rattle.first_fit.specs.Trying.{tried_at}
+use Rattle.first_fit.proofs.Firsts.{standby_here, standby_more, standby_end}
 use Rattle.planner.proofs.search.try_standbys.Goals as goal
 
 pub returns-then-try_apart : goal.returns-then-try_apart

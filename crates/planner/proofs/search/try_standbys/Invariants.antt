@@ -1,6 +1,6 @@
 use Rattle.std.proofs.Common.{◌≡◌, drop, vec_items}
-use Rattle.search.specs.Choices.{first_standby}
-use Rattle.search.specs.Trying.{tried_at}
+use Rattle.first_fit.specs.Choices.{first_standby}
+use Rattle.first_fit.specs.Trying.{tried_at}
 use Rattle.planner.proofs.search.try_standbys.Given as goal
 
 abbrev pub invariant-loop-i : goal.invariant-loop-i

@@ -1,8 +1,0 @@
-use Rattle.std.proofs.Common.{◌≡◌, true, vec_items}
-use Rattle.rack.specs.Test.{all_below}
-use Rattle.search.specs.Beside.{pair_beside}
-use Rattle.search.proofs.beside.machine_beside.Given as goal
-
-abbrev pub invariant-loop-f : goal.invariant-loop-f
-invariant-loop-f g l =
-    all_below l.f (pair_beside (g.R.Precedence.before l.rule) l.x (vec_items l.roster.placements) l.g) ≡ true
