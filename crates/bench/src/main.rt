@@ -1,5 +1,7 @@
 // Measures the product on a full rack. `bench 1` runs each measure once and prints no time, for the gate;
 // `bench N` runs it N times and prints the milliseconds. `bench N varied` fills the rack with varied jobs too.
+#![tactic(auto)]
+
 mod filling;
 mod fulltest;
 mod jobs;

@@ -1,17 +1,18 @@
 -- The sweep, step by step, and that it is the plan test.
-use Rattle.std.proofs.Common.{◌≡◌, ℕ, zero, suc, ◌+◌, ◌<◌, max, Bool, true, false, not, ◌&&◌, ◌||◌, eqb, List, [], ◌∷◌, ◌++◌, map, length, get_or, take, is_some, Some, Option, unwrap_or, sym, refl, ap, ◌∙◌, ⊎_elim, le_of_suc-le-suc, not-suc-le-zero, add-one}
+use Rattle.std.proofs.Common.{◌≡◌, ℕ, zero, suc, ◌+◌, ◌<◌, max, Bool, true, false, cond, not, ◌&&◌, ◌||◌, eqb, List, [], ◌∷◌, ◌++◌, map, length, get_or, take, is_some, Some, Option, unwrap_or, sym, refl, ap, ◌∙◌, ⊎_elim, le_of_suc-le-suc, not-suc-le-zero, add-one}
 use Rattle.std.proofs.lemmas.Bool.{and_from, and_parts, and_left, and_right, both_ways, cases_eq, eq-eqb, eqb-true, ne_eqb}
 use Rattle.terms.specs.declared.terms.Terms.{Terms}
 use Rattle.figures.specs.declared.copies.JobCopy.{JobCopy}
+use Rattle.figures.specs.declared.copies.Role.TheVariants.{Standby}
 use Rattle.figures.specs.Figure.{figure_of}
 use Rattle.rack.specs.declared.placement.Placement.{Placement}
-use Rattle.rack.specs.Plan.{In, Arranged}
-use Rattle.rack.specs.Sets.{primary_copy, standby_copy, quiet, quiet_figure, passive_late, loss}
+use Rattle.rack.specs.Plan.{In, Arranged, active}
+use Rattle.rack.specs.Sets.{copy_of, primary_copy, standby_copy, quiet, quiet_figure, passive_late, loss}
 use Rattle.rack.specs.Test.{all_of, all_below, loss_figure, standby_figure, Passes, passes}
 use Rattle.rack.proofs.Tested.{all_of_more, all_of_each, each_all_of, all_below_each, each_all_below, all_below_part_false, passes_means, passes_true}
 use Rattle.plantest.specs.Parts.{loss_with}
 use Rattle.plantest.specs.JobFigures.{largest_lost, lost_shown}
-use Rattle.plantest.specs.Sweep.{has_quiet, pair_fits, pair_passes, lost_passes, machine_passes, quiet_passes, sweep, late_fits, all_fit}
+use Rattle.plantest.specs.Sweep.{copies_fit, has_quiet, pair_fits, pair_passes, lost_passes, machine_passes, quiet_passes, sweep, late_fits, all_fit}
 use Rattle.plantest.proofs.Gathers.{loss_is}
 
 module _ (before : Terms → Terms → Bool) where
@@ -102,6 +103,17 @@ pub pair_is :
 pair_is before ps lates g f figures =
     ap (λ l. all_fit before (loss_with l g f ps) g f l ps) figures
     ∙ all_fit_is before ps ps (loss_with (map (passive_late before ps) ps) g f ps) g f (loss_is before ps ps g f)
+
+-- with the gathered set and the quiet figures as latenesses, the copies' test is the pair's
+pub pair_fits_is :
+    (before : Terms → Terms → Bool) (ps : List Placement) (lates : List ℕ) (set : List JobCopy) (g f n : ℕ) (p : Placement) →
+    lates ≡ map (passive_late before ps) ps → set ≡ loss_with lates g f ps → n < length ps → p ≡ get_or ps n p →
+    copies_fit before set (copy_of Standby p (cond (active p.status) p.terms.lateness (get_or lates n 0))) g f p ≡ pair_fits before ps g f p
+pair_fits_is before ps lates set g f n p figures gathered lt read =
+    let late : get_or lates n 0 ≡ passive_late before ps p = ap (λ l. get_or l n 0) figures ∙ map_at (passive_late before ps) ps n p lt read in
+    let whole : set ≡ loss before ps g f = gathered ∙ ap (λ l. loss_with l g f ps) figures ∙ loss_is before ps ps g f in
+    ap (λ s. copies_fit before s (copy_of Standby p (cond (active p.status) p.terms.lateness (get_or lates n 0))) g f p) whole
+    ∙ ap (λ l. copies_fit before (loss before ps g f) (copy_of Standby p (cond (active p.status) p.terms.lateness l)) g f p) late
 
 or_second : (a b : Bool) → a ≡ false → (a || b) ≡ true → b ≡ true
 or_second true b e t = absurd (both_ways true e refl)

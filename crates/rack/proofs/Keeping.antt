@@ -140,7 +140,7 @@ module _ (day : Day) (stop : Stop) (run : Run) where
   released_later Primary p k r w = omega arith
   released_later Standby p k r w = standby_later p.status p k r w
 
-  -- a call_up that is ready at t is one of the first t + 1
+  -- a call-up that is ready at t is one of the first t + 1
   ready_early : (g : ℕ) (p : Placement) (k t : ℕ) → Ready day stop run g p k t → k < suc t
   ready_early g p k t r =
       let more : k * 1 ≤ k * p.terms.period = mul-le k 1 k p.terms.period (omega arith) (period_some p.terms) in
@@ -168,7 +168,7 @@ module _ (test : ℕ → Bool) (p : Placement) where
   earliest_is (suc n) = earliest_more n (earliest test p n) (earliest_is n)
 
 module _ (before : Terms → Terms → Bool) (laws : Laws before) (day : Day) (stop : Stop) (run : Run) (g t : ℕ) where
-  -- call_up j of q is ready at t, and ahead of all of the list that is ready
+  -- call-up j of q is ready at t, and ahead of all of the list that is ready
   record Leads (ps : List Placement) (q : Placement) (j : ℕ) : Type 0 where
     listed : In q ps
     ready : Ready day stop run g q j t
@@ -197,7 +197,7 @@ module _ (before : Terms → Terms → Bool) (laws : Laws before) (day : Day) (s
   module _
       (p : Placement) (ps : List Placement) (once : Once (p ∷ ps))
       (j : ℕ) (own : of_job p j ≡ true) (none : (i : ℕ) → i < j → of_job p i ≡ true → ⊥) where
-    -- the earliest call_up of the first leads where it is ahead of the others
+    -- the earliest call-up of the first leads where it is ahead of the others
     first_leads : ((x : Placement) (k : ℕ) → In x ps → Ready day stop run g x k t → Ahead before p j x k) → Leads (p ∷ ps) p j
     first_leads others = record {
       listed = inl refl;

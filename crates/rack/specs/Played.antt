@@ -11,7 +11,7 @@ use Rattle.rack.specs.Plan.{number, machine}
 use Rattle.rack.specs.Day.{Day, invoked, late, work, Stop, no_stop, stops, halted}
 use Rattle.rack.specs.Run.{Slot, idle, runs, Run, worked, dropped}
 
--- a passive standby of call_up k has woken by tick t
+-- a passive standby of call-up k has woken by tick t
 abbrev pub has_woken : Day → Stop → Run → Placement → ℕ → ℕ → Bool
 has_woken day no_stop run p k t = false
 has_woken day (stops f s) run p k t =
@@ -19,7 +19,7 @@ has_woken day (stops f s) run p k t =
     && (nat_le (cond (nat_lt (invoked day p.terms k) s) s (invoked day p.terms k + late day Standby p.terms k)) t
     && nat_lt (worked run p.primary (number p) k s) (work day Primary p.terms k))
 
--- a copy of call_up k has been released by tick t
+-- a copy of call-up k has been released by tick t
 abbrev pub standby_out : Status → Day → Stop → Run → Placement → ℕ → ℕ → Bool
 standby_out Active day stop run p k t = nat_le (invoked day p.terms k + late day Standby p.terms k) t
 standby_out Passive day stop run p k t = has_woken day stop run p k t
@@ -38,7 +38,7 @@ is_ready_as day stop run g role p k t =
 abbrev pub is_ready : Day → Stop → Run → ℕ → Placement → ℕ → ℕ → Bool
 is_ready day stop run g p k t = is_ready_as day stop run g Primary p k t || is_ready_as day stop run g Standby p k t
 
--- nothing, or a call_up of a job
+-- nothing, or a call-up of a job
 pub data Choice : Type 0 where
   nothing : Choice
   call_up : Placement → ℕ → Choice
@@ -59,7 +59,7 @@ first_of before nothing other = other
 first_of before (call_up p k) nothing = call_up p k
 first_of before (call_up p k) (call_up q j) = cond (before p.terms q.terms) (call_up p k) (call_up q j)
 
--- what machine g can take at tick t: no call_up after the first t + 1 is invoked by then
+-- what machine g can take at tick t: no call-up after the first t + 1 is invoked by then
 abbrev pub best : (Terms → Terms → Bool) → Day → Stop → Run → ℕ → ℕ → List Placement → Choice
 best before day stop run g t [] = nothing
 best before day stop run g t (p ∷ ps) =
