@@ -8,26 +8,15 @@ import os
 import re
 import sys
 
+from respell_names import files, read
+
 TOKEN = re.compile(r"(?<![\w'·◌-])[^\W\d_][\w'·]*(?:-[\w'·]+)+(?![\w'·◌-])")
 MADE = ("Answers.antt", "Invariants.antt", "Choices.antt")
 
 
-def walk(top, ends):
-    for folder, dirs, names in os.walk(top):
-        dirs[:] = sorted(d for d in dirs if d != "out")
-        for name in sorted(names):
-            if name.endswith(ends):
-                yield os.path.join(folder, name)
-
-
-def read(path):
-    with open(path, encoding="utf-8") as f:
-        return f.read()
-
-
 def identifiers(crate):
     found = set()
-    for path in walk(os.path.join("crates", crate, "src"), ".rt"):
+    for path in files(".rt", top=os.path.join("crates", crate, "src")):
         for line in read(path).split("\n"):
             if line.lstrip().startswith(("ghost use", "//")):
                 continue
@@ -51,7 +40,7 @@ def turn(token, pairs):
 def main():
     for crate in sys.argv[1:] or sorted(os.listdir("crates")):
         pairs = [(w.replace("_", "-"), w) for w in identifiers(crate)]
-        for path in walk(os.path.join("crates", crate, "proofs"), MADE):
+        for path in files(*MADE, top=os.path.join("crates", crate, "proofs")):
             text = read(path)
             keep = library_names(text)
             new = TOKEN.sub(lambda m: m.group(0) if m.group(0) in keep else turn(m.group(0), pairs), text)

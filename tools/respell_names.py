@@ -13,8 +13,8 @@ TOKEN = re.compile(r"(?<![\w'·◌-])" + NAME + r"(?![\w'·◌-])")
 MADE = re.compile(r"/proofs/.*/(?:Answers|Invariants|Choices)\.antt$")
 
 
-def files(*ends):
-    for folder, dirs, names in os.walk("crates"):
+def files(*ends, top="crates"):
+    for folder, dirs, names in os.walk(top):
         dirs[:] = sorted(d for d in dirs if d not in ("out", "target"))
         for name in sorted(names):
             if name.endswith(ends):
@@ -105,4 +105,5 @@ def main():
                 f.write(new)
 
 
-main()
+if __name__ == "__main__":
+    main()
