@@ -1,7 +1,7 @@
-ghost use Rattle.std.specs.Prelude.{◌≡◌, slice_index_or};
+ghost use Rattle.std.specs.Prelude.{◌≡◌};
 ghost use Rattle.std.specs.Bool.{then_some};
 ghost use Rattle.orders.specs.Turns.{is_turn};
-ghost use Rattle.orders.specs.Ascending.{ascending, ascending_turns};
+ghost use Rattle.orders.specs.Ascending.{ascending_turns};
 ghost use Rattle.orders.specs.Counting.{each_once};
 
 use crate::order::{SearchOrder, is_turn};
@@ -12,7 +12,7 @@ pub struct Ascending;
 
 // The machine at place `k` of 0, 1, .., `count` - 1, where there is such a turn.
 fn machine_at(count: u8, k: u8) -> Option<u8>
-    ensures { result ≡ then_some (is_turn count k) (slice_index_or (ascending count) k 255) }
+    ensures { result ≡ then_some (is_turn count k) k }
 {
     is_turn(count, k).then_some(k)
 }

@@ -1,7 +1,7 @@
-ghost use Rattle.std.specs.Prelude.{◌≡◌, ◌<◌, ◌≤◌, ◌==◌, slice_index_or};
-ghost use Rattle.std.specs.Bool.{then_some};
-ghost use Rattle.orders.specs.Lightest.{Sorted, by_load, lighter, lightest_turns, rank};
-ghost use Rattle.orders.specs.Turns.{is_turn, turn_of};
+ghost use Rattle.std.specs.Prelude.{◌≡◌, ◌<◌, ◌≤◌, ◌==◌, count_by};
+ghost use Rattle.std.specs.List.{find, range_with_len};
+ghost use Rattle.orders.specs.Lightest.{Sorted, lighter, lightest_turns};
+ghost use Rattle.orders.specs.Turns.{turn_of};
 ghost use Rattle.orders.specs.ByLoad.{each_once};
 
 use crate::order::{SearchOrder, is_turn};
@@ -21,27 +21,17 @@ fn comes_before(loads: &[u64; 16], a: u8, b: u8) -> bool
 // How many machines below the count come before machine `g`.
 fn rank_of(count: u8, loads: &[u64; 16], g: u8) -> usize
     requires { (count ≤ 16) × (g < count) }
-    ensures { result ≡ rank loads.now g count }
+    ensures { result ≡ count_by (λ h. lighter loads.now h g) (range_with_len 0 count) }
 {
     (0..count).filter(|&h| comes_before(loads, h, g)).count()
 }
 
-// Whether machine `g` stands at place `k`: as many machines stand before it as come before it.
-fn stands_at(count: u8, loads: &[u64; 16], g: u8, k: u8) -> bool
-    requires { (count ≤ 16) × (g < count) }
-    ensures { result ≡ (slice_index_or (by_load loads.now count) k 255 == g) }
-{
-    rank_of(count, loads, g) == usize::from(k)
-}
-
-// The machine at place `k`, where there is such a turn.
+// The machine at place `k` below the count: as many come before it as stand before it.
 fn machine_at(count: u8, loads: &[u64; 16], k: u8) -> Option<u8>
-    ensures { result ≡ then_some (is_turn count k) (slice_index_or (by_load loads.now count) k 255) }
+    requires { count ≤ 16 }
+    ensures { result ≡ find (λ g. count_by (λ h. lighter loads.now h g) (range_with_len 0 count) == k) (range_with_len 0 count) }
 {
-    if !is_turn(count, k) {
-        return None;
-    }
-    (0..count).find(|&g| stands_at(count, loads, g, k))
+    (0..count).find(|&g| rank_of(count, loads, g) == usize::from(k))
 }
 
 impl SearchOrder for Lightest {
@@ -53,7 +43,12 @@ impl SearchOrder for Lightest {
         ensures tells { result ≡ turn_of (lightest_turns self.now count loads.now) count k }
         ensures sorted { Sorted loads.now count (lightest_turns self.now count loads.now) }
     {
+        let machine = if is_turn(count, k) {
+            machine_at(count, loads, k)
+        } else {
+            None
+        };
         // 255 is the number that the search-order interface gives for no turn
-        machine_at(count, loads, k).unwrap_or(255)
+        machine.unwrap_or(255)
     }
 }
