@@ -2,7 +2,8 @@ ghost use Rattle.std.specs.Prelude.{◌≡◌, ℕ, ◌≤◌, List, length};
 ghost use Rattle.orders.specs.Turns.{EachOnce, is_turn, turn_of};
 
 // A search order. What it means is the list `turns`; generic code may use of it only the law and that
-// asking tells the list's places exactly.
+// asking tells the list's places exactly. Its three numbers are given by this interface: a struct of them
+// would be made and taken apart in each call.
 pub trait SearchOrder {
     // For a machine count and the sixteen loads: the machines, in their turn.
     ghost turns: { Self → ℕ → List ℕ → List ℕ };
@@ -18,5 +19,5 @@ pub trait SearchOrder {
 pub fn is_turn(count: u8, k: u8) -> bool
     ensures { result ≡ is_turn count k }
 {
-    2 <= count && count <= 16 && k < count
+    (2..=16).contains(&count) && k < count
 }

@@ -11,10 +11,11 @@ use Rattle.figures.proofs.Demands.{run_some, period_some}
 use Rattle.rack.specs.declared.placement.Status.{Status}
 use Rattle.rack.specs.declared.placement.Status.TheVariants.{Passive, Active}
 use Rattle.rack.specs.declared.placement.Placement.{Placement}
-use Rattle.rack.specs.Plan.{In, number, active, machine, Once, Placed, Arranged}
+use Rattle.rack.specs.Plan.{In, number, active, machine, Placed, Arranged}
 use Rattle.rack.specs.Day.{Day, invoked, work, Stop, no_stop, stops, halted}
 use Rattle.rack.specs.Run.{Slot, idle, runs, Run, sum_to, hit, worked, Finished, StandbyReleased, Released, dropped, Ready, Keeps}
 use Rattle.rack.specs.Sets.{copy_of}
+use Rattle.rack.proofs.Same.{same_number, slot_cases}
 use Rattle.rack.proofs.SumLaws.{sum_add, sum_swap, sum_most, sum_least, sum_split, sum_one, sum_cond_le, sum_over, sum_over_swap, sum_over_one, window_low, window_high}
 
 -- the hit of the slot's own call-up
@@ -29,11 +30,6 @@ hit_cases (runs a b) n k =
     (λ same. let p = and_parts _ _ same in inr ((λ z. runs (eqb-true a n p.0 z) (eqb-true b k p.1 z)), cond-true _ 1 0 same))
     (λ other. inl (cond-false _ 1 0 other))
     (cases_Bool (eqb a n && eqb b k))
-
--- a slot is idle or runs something
-slot_cases : (slot : Slot) → (slot ≡ idle) ⊎ ((n : ℕ) × (k : ℕ) × (slot ≡ runs n k))
-slot_cases idle = inl refl
-slot_cases (runs n k) = inr (n, k, refl)
 
 -- the same slot under other names for its numbers
 runs_as : {slot : Slot} {n k j l : ℕ} → slot ≡ runs n k → n ≡ j → k ≡ l → slot ≡ runs j l
@@ -86,23 +82,6 @@ kept_before (stops f s) Standby p t u l kept =
     (λ still. still)
     (cases_Bool (dropped (stops f s) Standby p t))
 
--- a number names one placement
-pub same_placement : (ps : List Placement) → Once ps → (p q : Placement) → In p ps → In q ps → number p ≡ number q → p ≡ q
-same_placement [] once p q p_in q_in e = absurd p_in
-same_placement (a ∷ ps) once p q p_in q_in e =
-    ⊎_elim
-    (λ p_first.
-    ⊎_elim
-    (λ q_first. p_first ∙ sym q_first)
-    (λ q_later. absurd (once.0 q q_later (sym e ∙ ap number p_first)))
-    q_in)
-    (λ p_later.
-    ⊎_elim
-    (λ q_first. absurd (once.0 p p_later (e ∙ ap number q_first)))
-    (λ q_later. same_placement ps once.1 p q p_later q_later e)
-    q_in)
-    p_in
-
 -- a machine has one copy of a job at most
 pub one_role : (m : ℕ) (p : Placement) → Placed m p → (a b : Role) → machine a p ≡ machine b p → a ≡ b
 one_role m p placed Primary Primary e = refl
@@ -127,7 +106,7 @@ module _
   ready_now : (p : Placement) → In p ps → (k t : ℕ) → run g t ≡ runs (number p) k → Ready day stop run g p k t
   ready_now p p_in k t is =
       let found = keeps.only_ready g t (number p) k is in
-      let same : found.0 ≡ p = same_placement ps plan.once found.0 p found.1 p_in found.2 in
+      let same : found.0 ≡ p = same_number ps found.0 p plan.once found.1 p_in found.2 in
       subst (λ z. Ready day stop run g z k t) same found.3
 
   -- and in the role that the job has there
@@ -168,7 +147,7 @@ module _
       let e = h.3 in
       let d = some.2 in
       let n : some.0 ≡ number h.0 = cc in
-      let same : h.0 ≡ found.0 = same_placement ps plan.once h.0 found.0 h.2 found.1 (sym n ∙ sym found.2) in
+      let same : h.0 ≡ found.0 = same_number ps h.0 found.0 plan.once h.2 found.1 (sym n ∙ sym found.2) in
       both_ways _ no' (ap (λ z. before z.terms p.terms) (sym same) ∙ h.4)))
       (cases_Bool (before found.0.terms p.terms)))
       (slot_cases (run g t))
@@ -280,7 +259,7 @@ module _
         ⊎_elim
         (λ more. (top.0, top.1, top.2, top.3, laws.transitive top.0.terms q.terms p.terms more higher))
         (λ same.
-        let is_q : top.0 ≡ q = same_placement ps plan.once top.0 q top.2 q_in same.0 in
+        let is_q : top.0 ≡ q = same_number ps top.0 q plan.once top.2 q_in same.0 in
         (top.0, top.1, top.2, top.3, ap (λ z. before z.terms p.terms) is_q ∙ higher))
         top.4
 

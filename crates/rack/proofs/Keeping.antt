@@ -36,6 +36,7 @@ use Rattle.rack.specs.Played.{
   ticks_to,
   played,
 }
+use Rattle.rack.proofs.Bound.{not_early}
 use Rattle.rack.proofs.Same.{same_number, idle_runs, worked_same, ready_moves, same_run}
 
 -- the tests of the computed run say what the rules say
@@ -122,29 +123,11 @@ module _ (day : Day) (stop : Stop) (run : Run) where
       (and_from _ _ (eq-eqb _ _ r.here)
       (and_from _ _ (released_out r.role p k t r.since r.released r.begun) (and_from _ _ (lt-ltb _ _ r.unfinished) (not_from_false _ r.kept))))
 
-  -- no passive standby wakes before its invocation
-  wakes_later : (on : Stop) (p : Placement) (k r : ℕ) → Wakes day on run p k r → invoked day p.terms k ≤ r
-  wakes_later no_stop p k r w = absurd w
-  wakes_later (stops f s) p k r w =
-      ⊎_elim
-      (λ (less : invoked day p.terms k < s). omega (arith, w.2 less))
-      (λ (most : s ≤ invoked day p.terms k). omega (arith, w.3 most))
-      (cases_lt (invoked day p.terms k) s)
-
-  standby_later : (status : Status) (p : Placement) (k r : ℕ) → StandbyReleased status day stop run p k r → invoked day p.terms k ≤ r
-  standby_later Passive p k r w = wakes_later stop p k r w
-  standby_later Active p k r w = omega arith
-
-  -- no copy is released before its invocation
-  released_later : (role : Role) (p : Placement) (k r : ℕ) → Released day stop run role p k r → invoked day p.terms k ≤ r
-  released_later Primary p k r w = omega arith
-  released_later Standby p k r w = standby_later p.status p k r w
-
   -- a call-up that is ready at t is one of the first t + 1
   ready_early : (g : ℕ) (p : Placement) (k t : ℕ) → Ready day stop run g p k t → k < suc t
   ready_early g p k t r =
       let more : k * 1 ≤ k * p.terms.period = mul-le k 1 k p.terms.period (omega arith) (period_some p.terms) in
-      omega (arith, released_later r.role p k r.since r.released, r.begun)
+      omega (arith, not_early r.role day stop run p k r.since r.released, r.begun)
 
 -- the earliest of the first n that pass, or nothing where none does
 module _ (test : ℕ → Bool) (p : Placement) where

@@ -13,11 +13,7 @@ use Rattle.rack.specs.Plan.{In, number, active, Once}
 use Rattle.rack.specs.Sets.{copy_of, primary_copy, gather, quiet_part, quiet, quiet_figure, passive_late, standby_late, standby_copy, loss_part, loss}
 use Rattle.rack.specs.Test.{loss_figure, standby_figure, Passes}
 use Rattle.rack.specs.Fewer.{Part, FewerPass}
-
--- the sum of a weight over a list
-abbrev pub weigh : (Placement → ℕ) → List Placement → ℕ
-weigh w [] = 0
-weigh w (p ∷ ps) = w p + weigh w ps
+use Rattle.rack.proofs.SumLaws.{sum_over}
 
 -- a list without one of its places
 abbrev without : (qs : List Placement) (p : Placement) → In p qs → List Placement
@@ -26,7 +22,7 @@ without (q ∷ qs) p (inl first) = qs
 without (q ∷ qs) p (inr later) = q ∷ without qs p later
 
 -- a list weighs what stands at a place and what is left
-weigh_without : (w : Placement → ℕ) (qs : List Placement) (p : Placement) (at : In p qs) → weigh w qs ≡ w p + weigh w (without qs p at)
+weigh_without : (w : Placement → ℕ) (qs : List Placement) (p : Placement) (at : In p qs) → sum_over qs w ≡ w p + sum_over (without qs p at) w
 weigh_without w [] p at = absurd at
 weigh_without w (q ∷ qs) p (inl first) = omega (arith, ap w first)
 weigh_without w (q ∷ qs) p (inr later) = omega (arith, weigh_without w qs p later)
@@ -40,7 +36,7 @@ in_without (q ∷ qs) p (inr later) x x_in other =
     ⊎_elim (λ x_first. inl x_first) (λ x_later. inr (in_without qs p later x x_later other)) x_in
 
 -- a part in which no number stands twice weighs no more than the whole
-pub weigh_part : (w : Placement → ℕ) (ps qs : List Placement) → Once ps → Part ps qs → weigh w ps ≤ weigh w qs
+pub weigh_part : (w : Placement → ℕ) (ps qs : List Placement) → Once ps → Part ps qs → sum_over ps w ≤ sum_over qs w
 weigh_part w [] qs once part = omega arith
 weigh_part w (p ∷ ps) qs once part =
     let at = part p (inl refl) in
@@ -51,7 +47,7 @@ weigh_part w (p ∷ ps) qs once part =
     )
 
 -- where each weighs no more, all weigh no more
-pub weigh_less : (v w : Placement → ℕ) (ps : List Placement) → ((p : Placement) → In p ps → v p ≤ w p) → weigh v ps ≤ weigh w ps
+pub weigh_less : (v w : Placement → ℕ) (ps : List Placement) → ((p : Placement) → In p ps → v p ≤ w p) → sum_over ps v ≤ sum_over ps w
 weigh_less v w [] less = omega arith
 weigh_less v w (p ∷ ps) less = omega (arith, less p (inl refl), weigh_less v w ps (λ q at. less q (inr at)))
 
@@ -86,7 +82,7 @@ module _ (before : Terms → Terms → Bool) where
   -- what is gathered holds off the sum of the parts
   pub held_off_gather :
       (part : Placement → List JobCopy) (ps : List Placement) (own : JobCopy) (x : ℕ) →
-      all_held_off before (gather part ps) own x ≡ weigh (λ p. all_held_off before (part p) own x) ps
+      all_held_off before (gather part ps) own x ≡ sum_over ps (λ p. all_held_off before (part p) own x)
   held_off_gather part [] own x = refl
   held_off_gather part (p ∷ ps) own x = omega (arith, held_off_both (part p) (gather part ps) own x, held_off_gather part ps own x)
 

@@ -51,7 +51,7 @@ pub sum_cond_le : (b : Bool) (n c : ℕ) (f : ℕ → ℕ) → sum_to n f ≤ c 
 sum_cond_le true n c f h = h
 sum_cond_le false n c f h = omega (arith, sum_zero n)
 
--- the sum of f over a list
+-- the sum of f over a list, the first element first (std's `sum_by` adds the last one last, and so computes no step here)
 abbrev pub sum_over : {A : Type 0} → List A → (A → ℕ) → ℕ
 sum_over [] f = 0
 sum_over (c ∷ set) f = f c + sum_over set f

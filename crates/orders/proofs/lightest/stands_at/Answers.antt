@@ -1,7 +1,0 @@
-use Rattle.std.proofs.Common.{ℕ, eqb, ap, ◌∙◌}
-use Rattle.orders.specs.ByLoad.{rank_tells}
-use Rattle.orders.proofs.lightest.stands_at.Goals as goal
-
-pub returns : goal.returns
-returns c =
-    ap (λ (r : ℕ). eqb r c.args.k) c.rank_of.ensures ∙ rank_tells c.args.loads.now c.args.count c.args.g c.args.k c.requires.0 c.requires.1
