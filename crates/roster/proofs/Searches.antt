@@ -1,42 +1,37 @@
 -- A job's place by the library's `position`, and the recursions over job numbers.
-use Rattle.std.proofs.Common.{◌≡◌, ℕ, suc, ◌+◌, ◌≤◌, Bool, true, false, cond, not, eqb, ltb, List, [], ◌∷◌, ◌++◌, length, drop, Some, None, MatchOption, sym, refl, ap, ◌∙◌, arith}
+use Rattle.std.proofs.Common.{◌≡◌, ℕ, suc, ◌+◌, ◌≤◌, Bool, true, false, cond, not, eqb, ltb, List, [], ◌∷◌, length, Some, None, MatchOption, sym, refl, ap, ◌∙◌, arith}
 use Rattle.std.specs.Option.{unwrap_or}
 use Rattle.std.specs.List as list
 use Rattle.std.specs.List.{insert, remove, position, position_or_len, slice_get}
+use Rattle.std.proofs.lemmas.Grind.{common_steps}
 use Rattle.std.proofs.lemmas.Bool.{cond_both, ltb-true, ltb-false}
-use Rattle.std.proofs.lemmas.List.{append-nil, take_all, drop_all}
 use Rattle.std.proofs.lemmas.List.Sums.{prefix_len-le-length}
 use Rattle.std.proofs.lemmas.List.Folds.{find_at}
 use Rattle.std.proofs.lemmas.List.Recursion.{same_from_clauses}
 use Rattle.std.proofs.lemmas.Option.{slice_get_read, slice_get_past}
 use Rattle.rack.specs.declared.placement.Placement.{Placement}
 use Rattle.rack.specs.Plan.{number}
+use Rattle.roster.proofs.Climb.{climbs}
 use Rattle.roster.specs.Changes.{find, with_job, without, Stands, Absent}
 
 -- the place of the first that passes, or the length
 pub position-or-length : (test : Placement → Bool) (ps : List Placement) → unwrap_or (position test ps) (length ps) ≡ position_or_len test ps
 position-or-length test ps =
-    let k = position_or_len test ps in
-    cond_both (ltb k (length ps)) (Some k) None (λ r. unwrap_or r (length ps) ≡ k)
-    (λ _. refl)
-    (λ past. omega (arith, ltb-false k (length ps) past, prefix_len-le-length (λ p. not (test p)) ps))
-
--- whether its number is larger than the job's
-abbrev pub above : Placement → Placement → Bool
-above p q = ltb (number p) (number q)
+    grind (arith, prefix_len-le-length (λ p. not (test p)) ps)
 
 -- a job is put in before the first of a larger number
 pub with_job_place :
-    (p : Placement) (ps : List Placement) → insert ps (position_or_len (above p) ps) p ≡ with_job p ps
+    (p : Placement) (ps : List Placement) → insert ps (position_or_len (climbs p) ps) p ≡ with_job p ps
 with_job_place p [] = refl
 with_job_place p (x ∷ ps) =
-    one (above p x) ps (with_job p ps) (position_or_len (above p) ps) (with_job_place p ps)
+    one (climbs p x) ps (with_job p ps) (position_or_len (climbs p) ps) (with_job_place p ps)
   where
+    -- one placement more, before or after the job
     one :
         (less : Bool) (xs more : List Placement) (k : ℕ) → insert xs k p ≡ more →
         insert (x ∷ xs) (cond (not less) (1 + k) 0) p ≡ cond less (p ∷ x ∷ xs) (x ∷ more)
     one true xs more k e = refl
-    one false xs more k e = let up : 1 + k ≡ suc k = omega arith in rw up (ap (λ l. x ∷ l) e)
+    one false xs more k e = let next : 1 + k ≡ suc k = omega arith in rw next (ap (λ l. x ∷ l) e)
 
 module _ (n : ℕ) where
   -- whether it is the job with this number
@@ -52,11 +47,12 @@ module _ (n : ℕ) where
   without_place [] = refl
   without_place (x ∷ ps) = one (has x) ps (without n ps) (position_or_len has ps) (without_place ps)
     where
+      -- one placement more, that goes or stays
       one :
           (its : Bool) (xs less : List Placement) (k : ℕ) → remove xs k ≡ less →
           remove (x ∷ xs) (cond (not its) (1 + k) 0) ≡ cond its xs (x ∷ less)
       one true xs less k e = refl
-      one false xs less k e = let up : 1 + k ≡ suc k = omega arith in rw up (ap (λ l. x ∷ l) e)
+      one false xs less k e = let next : 1 + k ≡ suc k = omega arith in rw next (ap (λ l. x ∷ l) e)
 
   -- where the job stands, if it is there
   pub place_cases : (ps : List Placement) → MatchOption (position has ps) (Absent n ps) (λ i. Stands n ps i)
@@ -79,7 +75,4 @@ module _ (n : ℕ) where
     where
       -- nothing is taken out past the end
       removed_past : (xs : List Placement) (k : ℕ) → length xs ≤ k → remove xs k ≡ xs
-      removed_past xs k over =
-          let a = take_all k xs over in
-          let b = drop_all (suc k) xs (omega (arith, over)) in
-          ap (λ l. l ++ drop (suc k) xs) a ∙ ap (λ l. xs ++ l) b ∙ append-nil xs
+      removed_past xs k over = grind (arith, common_steps)

@@ -6,8 +6,7 @@ use Rattle.roster.proofs.roster.Roster.find.Goals as goal
 
 pub returns : goal.returns
 returns c =
-    let ps = c.args.self.now.placements.items in
-    let n = c.args.number in
     c.copied.ensures
-    ∙ find_from_yields_List (has n) _ _ c.find.result c.find.ensures.ran (YieldsList-from_slice ps cc) (λ x b q k. search (rules, tests))
-    ∙ find_same n ps
+    ∙ find_from_yields_List (has c.args.number) _ _ c.find.result c.find.ensures.ran (YieldsList-from_slice c.args.self.now.placements.items cc)
+    (λ x b q k. search (rules, tests))
+    ∙ find_same c.args.number c.args.self.now.placements.items

@@ -5,5 +5,4 @@ use Rattle.roster.proofs.roster.Roster.loads.Goals as goal
 
 pub returns : goal.returns
 returns c =
-    let ps = c.args.self.now.placements.items in
-    from_fn_is _ _ (λ g. load g ps) (λ i y q k. search (rules, tests)) c.from_fn.result 16 c.from_fn.ensures.items
+    from_fn_is _ _ (λ g. load g c.args.self.now.placements.items) (λ i y q k. search (rules, tests)) c.from_fn.result 16 c.from_fn.ensures.items
