@@ -1,5 +1,6 @@
 pub mod Jobs
 pub mod Ordered
-pub mod Walks
+pub mod Searches
 pub mod Weights
 pub mod Climb
+pub mod Filled

@@ -12,7 +12,7 @@ impl Roster {
         ensures machines { self.new.machines ≡ (if result then machines else self.old.machines) }
         ensures items { self.new.placements.items ≡ (if result then [] else self.old.placements.items) }
     {
-        if machines < 2 || machines > 16 {
+        if !(2..=16).contains(&machines) {
             return false;
         }
         self.placements.clear();
@@ -39,8 +39,7 @@ impl Roster {
             return false;
         }
         let i = place_for(self.placements(), &p);
-        let _ = self.placements.insert(i, p);
-        true
+        self.placements.insert(i, p).is_ok()
     }
 
     // Takes out the job with this number.
@@ -49,9 +48,7 @@ impl Roster {
         ensures items { self.new.placements.items ≡ without number self.old.placements.items }
         ensures machines { self.new.machines ≡ self.old.machines }
     {
-        match place_of(self.placements(), number) {
-            None => None,
-            Some(i) => Some(self.placements.remove(i)),
-        }
+        let i = place_of(self.placements(), number)?;
+        Some(self.placements.remove(i))
     }
 }

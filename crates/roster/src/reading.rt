@@ -1,7 +1,6 @@
 ghost use Rattle.std.specs.Prelude.{◌≡◌};
 ghost use Rattle.roster.specs.Changes.{find};
 
-use crate::places::place_of;
 use crate::roster::Roster;
 use rack::Placement;
 
@@ -23,9 +22,9 @@ impl Roster {
     pub fn find(&self, number: u32) -> Option<Placement>
         ensures { result ≡ find number self.now.placements.items }
     {
-        match place_of(self.placements(), number) {
-            None => None,
-            Some(i) => Some(self.placements[i]),
-        }
+        self.placements
+            .iter()
+            .find(|p| p.terms.number() == number)
+            .copied()
     }
 }

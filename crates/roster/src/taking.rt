@@ -11,44 +11,29 @@ use std::mem;
 pub fn all_placed_in(machines: u8, placements: &[Placement]) -> bool
     ensures { result ≡ all_placed machines placements.now }
 {
-    for p in placements {
-        if !is_placed(machines, p) {
-            return false;
-        }
-    }
-    true
+    placements.iter().all(|p| is_placed(machines, p))
 }
 
 // Whether the job numbers rise.
 fn rises(placements: &[Placement]) -> bool
     ensures { result ≡ rising placements.now }
 {
-    let mut last = 0;
-    for p in placements {
-        if p.terms.number() <= last {
-            return false;
-        }
-        last = p.terms.number();
-    }
-    true
+    placements.is_sorted_by(|p, next| p.terms.number() < next.terms.number())
 }
 
 // Whether a roster may hold these placements on so many machines.
 fn may_hold(machines: u8, placements: &[Placement]) -> bool
     ensures { result ≡ holdable machines placements.now }
 {
-    if machines < 2 || machines > 16 {
-        return false;
-    }
-    if placements.len() > 96 || !rises(placements) {
-        return false;
-    }
-    all_placed_in(machines, placements)
+    (2..=16).contains(&machines)
+        && placements.len() <= 96
+        && rises(placements)
+        && all_placed_in(machines, placements)
 }
 
 impl Roster {
     // Takes over a machine count and placements, if they are a plan in rising number and have memory for 96.
-    // What it held before is then in `placements`.
+    // What it held before is then in `placements`; else both stay as they were, so the `bool` has no value beside it.
     pub fn take_over(&mut self, machines: u8, placements: &mut Vec<Placement>) -> bool
         ensures test { 96 ≤ vec_capacity placements.old → result ≡ holdable machines placements.old.items }
         ensures machines { self.new.machines ≡ (if result then machines else self.old.machines) }

@@ -1,12 +1,11 @@
-use Rattle.std.proofs.Common.{arith}
-use Rattle.roster.proofs.Weights.{load_from, load_end}
+use Rattle.std.proofs.Common.{◌≡◌, rules, sym, refl, ◌∙◌, sum_by}
+use Rattle.std.proofs.lemmas.List.Recursion.{is_sum_by}
+use Rattle.roster.specs.Loads.{job_load, load}
 use Rattle.roster.proofs.loading.load_of.Goals as goal
-
-pub loop-p-preserved : goal.loop-p-preserved
-loop-p-preserved c =
-    let more = load_from c.args.machine c.args.placements.now c.loop-p.p-index c.p-item.result c.loop-p-test.true c.p-item.is in
-    (omega arith, omega arith)
 
 pub returns : goal.returns
 returns c =
-    omega (arith, load_end c.args.machine c.args.placements.now c.loop-p.p-index c.loop-p-test.false)
+    let ps = c.args.placements.now in
+    let g = c.args.machine in
+    let total : c.sum.result ≡ sum_by (job_load g) ps = search rules in
+    total ∙ sym (is_sum_by (load g) (job_load g) refl (λ _ _. refl) ps)

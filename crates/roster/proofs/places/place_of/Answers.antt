@@ -1,26 +1,15 @@
+use Rattle.std.proofs.Common.{rules, tests}
+use Rattle.std.proofs.lemmas.Iterator.{YieldsList-from_slice}
+use Rattle.std.proofs.lemmas.Iterator.Search.{position_from_yields_List}
 use Rattle.roster.proofs.Ordered.{orderly_without}
-use Rattle.roster.proofs.Walks.{other_number, its_number, no_number}
+use Rattle.roster.proofs.Searches.{has, place_cases}
 use Rattle.roster.proofs.places.place_of.Goals as goal
 
-pub returns-then-has_number : goal.returns-then-has_number
-returns-then-has_number c =
+pub returns-clause-cases : goal.returns-clause-cases
+returns-clause-cases c =
     let ps = c.args.placements.now in
-    record {
-      cases = its_number ps c.loop-i.i c.index-placements-i.result c.loop-i-test.true c.index-placements-i.is c.args.number
-          c.if-has_number.ensures c.loop-i.invariant;
-      keeps = λ m is. orderly_without m c.args.number ps is;
-    }
+    let first = position_from_yields_List (has c.args.number) _ _ _ c.position.ensures.ran (YieldsList-from_slice ps cc) (λ x b q k. search (rules, tests)) in
+    rw first (place_cases c.args.number ps)
 
-pub loop-i-preserved : goal.loop-i-preserved
-loop-i-preserved c =
-    let ps = c.args.placements.now in
-    other_number ps c.loop-i.i c.index-placements-i.result c.loop-i-test.true c.index-placements-i.is c.args.number
-    c.if-has_number.ensures c.loop-i.invariant
-
-pub returns : goal.returns
-returns c =
-    let ps = c.args.placements.now in
-    record {
-      cases = no_number ps c.loop-i.i c.loop-i-test.false c.args.number c.loop-i.invariant;
-      keeps = λ m is. orderly_without m c.args.number ps is;
-    }
+pub returns-clause-keeps : goal.returns-clause-keeps
+returns-clause-keeps c = λ m is. orderly_without m c.args.number c.args.placements.now is

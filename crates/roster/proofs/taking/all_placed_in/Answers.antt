@@ -1,21 +1,14 @@
-use Rattle.std.proofs.Common.{sym, ap, ◌∙◌, take_all}
-use Rattle.std.proofs.lemmas.Bool.{and_from}
-use Rattle.rack.proofs.Tested.{in_at, all_of_more, all_of_part_false}
+use Rattle.std.proofs.Common.{◌&&◌, rules, tests, refl, ◌∙◌}
+use Rattle.std.specs.List.{list_all}
+use Rattle.std.proofs.lemmas.Iterator.{YieldsList-from_slice}
+use Rattle.std.proofs.lemmas.Iterator.Search.{all_from_yields_List}
+use Rattle.std.proofs.lemmas.List.Recursion.{same_from_clauses}
 use Rattle.roster.specs.Rising.{placed, all_placed}
 use Rattle.roster.proofs.taking.all_placed_in.Goals as goal
 
-pub returns-then-not-is_placed : goal.returns-then-not-is_placed
-returns-then-not-is_placed c =
-    let ps = c.args.placements.now in
-    let p = c.p-item.result in
-    sym (all_of_part_false (placed c.args.machines) ps p (in_at ps c.loop-p.p-index p c.loop-p-test.true c.p-item.is) (sym c.if-not-is_placed.ensures))
-
-pub loop-p-preserved : goal.loop-p-preserved
-loop-p-preserved c =
-    all_of_more (placed c.args.machines) c.args.placements.now c.loop-p.p-index c.p-item.result c.loop-p-test.true c.p-item.is
-    ∙ and_from _ _ c.loop-p.invariant (sym c.if-not-is_placed.ensures)
-
 pub returns : goal.returns
 returns c =
-    let e = take_all c.loop-p.p-index c.args.placements.now c.loop-p-test.false in
-    sym (sym (ap (all_placed c.args.machines) e) ∙ c.loop-p.invariant)
+    let ps = c.args.placements.now in
+    let test = placed c.args.machines in
+    all_from_yields_List test _ _ _ c.all.ensures.ran (YieldsList-from_slice ps cc) (λ x b q k. search (rules, tests))
+    ∙ same_from_clauses (list_all test) (all_placed c.args.machines) (λ p rest. test p && rest) refl (λ _ _. refl) (λ _ _. refl) ps
