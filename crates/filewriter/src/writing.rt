@@ -16,6 +16,7 @@ fn put(out: &mut [u8], at: usize, bytes: &[u8])
 }
 
 // The placements' records, after the first.
+// By place: after `chunks_exact_mut` a proof knows how many bytes there are, and none of them.
 fn put_jobs(placements: &[Placement], out: &mut [u8])
     requires { 3 + 25 * length placements.now ≤ length out.old }
     ensures { out.new ≡ over 3 (jobs_of placements.now) out.old }

@@ -6,7 +6,6 @@ use Rattle.planfile.specs.declared.record.Record.{Record}
 use Rattle.planfile.specs.declared.record.Record.TheVariants.{Head, Job, Note, End}
 use Rattle.planfile.specs.Shown.{shown}
 use denote.Bor.{Bor}
-use Rattle.terms.specs.declared.draft.Draft.{Draft}
 use Rattle.rack.specs.declared.placement.Placement.{Placement}
 use Rattle.planfile.specs.Format.{Rec, head, job, note, end, parse_record}
 use Rattle.planfile.specs.Judging.{Onward, after_job, admitted, judge, judge_first, body_within, body_of, following}
@@ -41,8 +40,8 @@ enough :
     (n k m : ℕ) (xs : List ℕ) → length xs ≤ n → length xs ≤ k → (last jobs notes : ℕ) →
     body_within n m last jobs notes xs ≡ body_within k m last jobs notes xs
 enough n k m [] h i last jobs notes = empty n m last jobs notes ∙ sym (empty k m last jobs notes)
-enough zero k m (x ∷ xs) h i last jobs notes = absurd (let z : ⊥ = omega arith in z)
-enough (suc n) zero m (x ∷ xs) h i last jobs notes = absurd (let z : ⊥ = omega arith in z)
+enough zero k m (x ∷ xs) h i last jobs notes = absurd (omega arith)
+enough (suc n) zero m (x ∷ xs) h i last jobs notes = absurd (omega arith)
 enough (suc n) (suc k) m (x ∷ xs) h i last jobs notes =
     first_alike m last jobs notes (body_within n m) (body_within k m) (x ∷ xs) (parse_record (x ∷ xs)) refl
     (λ l j c ys s. enough n k m ys (omega arith) (omega arith) l j c)
