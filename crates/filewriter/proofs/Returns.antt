@@ -1,6 +1,7 @@
 -- A roster's file is read back as the same plan.
-use Rattle.std.proofs.Common.{◌≡◌, ℕ, ◌+◌, ◌-◌, ◌*◌, ◌^◌, ◌<◌, ◌≤◌, true, cond, not, ◌&&◌, eqb, ltb, List, [], ◌∷◌, ◌++◌, map, Some, None, Option, unwrap_or, sym, refl, ap, ◌∙◌, arith}
-use Rattle.std.proofs.lemmas.Bool.{and_from, and_parts, cond-true, lt-ltb, ltb-true, ne_eqb, not_from_false}
+use Rattle.std.proofs.Common.{◌≡◌, ℕ, ◌+◌, ◌-◌, ◌^◌, ◌<◌, ◌≤◌, true, ltb, List, [], ◌∷◌, ◌++◌, map, Some, unwrap_or, refl, arith}
+use Rattle.std.proofs.lemmas.Bool.{and_parts, ltb-true}
+use Rattle.std.proofs.lemmas.Bool.Decides.{nat_tests}
 use Rattle.rack.specs.declared.placement.Placement.{Placement}
 use Rattle.rack.specs.Plan.{number}
 use Rattle.rack.specs.Test.{all_of}
@@ -18,13 +19,7 @@ use Rattle.filewriter.proofs.Overs.{length_file}
 
 -- two different machines of the rack have a pair
 paired : (a b : ℕ) → a < 16 → b < 16 → (a ≡ b → ⊥) → pair_number a b ≡ Some (unwrap_or (pair_number a b) 0)
-paired a b ha hb apart =
-    let at : ℕ = 15 * a + cond (ltb b a) b (b - 1) in
-    let there : (ltb a 16 && (ltb b 16 && not (eqb a b))) ≡ true =
-    and_from (ltb a 16) _ (lt-ltb a 16 ha)
-    (and_from (ltb b 16) _ (lt-ltb b 16 hb) (not_from_false (eqb a b) (ne_eqb a b apart))) in
-    let is : pair_number a b ≡ Some at = cond-true (ltb a 16 && (ltb b 16 && not (eqb a b))) (Some at) None there in
-    is ∙ ap (λ (o : Option ℕ). Some (unwrap_or o 0)) (sym is)
+paired a b ha hb apart = grind (arith, nat_tests)
 
 -- a placement's record stands for it
 stands :

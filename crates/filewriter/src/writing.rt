@@ -1,6 +1,5 @@
 ghost use Rattle.std.specs.Prelude.{◌≡◌, ◌+◌, ◌*◌, ◌≤◌, ◌++◌, length, drop, if◌then◌else◌, Ok, Err, nat_le};
 ghost use Rattle.terms.specs.declared.refusal.Refusal.TheVariants.{Short};
-ghost use Rattle.planfile.specs.Format.{encode, end, head};
 ghost use Rattle.filewriter.specs.Written.{NotesLeftOut, RoundTrip, file_length, file_of, jobs_of, over};
 
 use crate::bytes::job_bytes;
@@ -16,39 +15,15 @@ fn put(out: &mut [u8], at: usize, bytes: &[u8])
     out[at..at + bytes.len()].copy_from_slice(bytes);
 }
 
-// The file's first record.
-fn put_head(code: u8, machines: u8, out: &mut [u8])
-    requires { 3 ≤ length out.old }
-    ensures { out.new ≡ over 0 (encode (head code machines)) out.old }
-{
-    put(out, 0, &[1, code, machines]);
-}
-
 // The placements' records, after the first.
+// By place: after `chunks_exact_mut` a proof knows how many bytes there are, and none of them.
 fn put_jobs(placements: &[Placement], out: &mut [u8])
     requires { 3 + 25 * length placements.now ≤ length out.old }
     ensures { out.new ≡ over 3 (jobs_of placements.now) out.old }
 {
-    for i in 0..placements.len() {
-        put(out, 3 + 25 * i, &job_bytes(&placements[i]));
+    for (i, p) in placements.iter().enumerate() {
+        put(out, 3 + 25 * i, &job_bytes(p));
     }
-}
-
-// The file's last record, after those of so many placements.
-fn put_end(jobs: usize, out: &mut [u8])
-    requires { 4 + 25 * jobs ≤ length out.old }
-    ensures { out.new ≡ over (3 + 25 * jobs) (encode end) out.old }
-{
-    put(out, 3 + 25 * jobs, &[9]);
-}
-
-fn put_all(code: u8, machines: u8, placements: &[Placement], out: &mut [u8])
-    requires { file_length placements.now ≤ length out.old }
-    ensures { out.new ≡ file_of code machines placements.now ++ drop (file_length placements.now) out.old }
-{
-    put_head(code, machines, out);
-    put_jobs(placements, out);
-    put_end(placements.len(), out);
 }
 
 // The roster's file, where there is room for it.
@@ -56,7 +31,10 @@ fn put_roster(code: u8, roster: &Roster, out: &mut [u8])
     requires { file_length roster.now.placements.items ≤ length out.old }
     ensures { out.new ≡ file_of code roster.now.machines roster.now.placements.items ++ drop (file_length roster.now.placements.items) out.old }
 {
-    put_all(code, roster.machines(), roster.placements(), out);
+    let placements = roster.placements();
+    put(out, 0, &[1, code, roster.machines()]);
+    put_jobs(placements, out);
+    put(out, 3 + 25 * placements.len(), &[9]);
 }
 
 // How many bytes that is: head and end have 3 and 1, each job 25.
@@ -64,15 +42,6 @@ fn size_of(roster: &Roster) -> usize
     ensures { result ≡ file_length roster.now.placements.items }
 {
     4 + 25 * roster.placements().len()
-}
-
-// The same, with the laws of such a file.
-fn size_as_read(roster: &Roster) -> usize
-    ensures size { result ≡ file_length roster.now.placements.items }
-    ensures round_trip { RoundTrip }
-    ensures notes { NotesLeftOut }
-{
-    size_of(roster)
 }
 
 // Writes the roster's plan file to the first bytes of `out`, and says how many they are. The later bytes stay;
@@ -83,7 +52,7 @@ pub fn write_roster(code: u8, roster: &Roster, out: &mut [u8]) -> Result<usize, 
     ensures round_trip { RoundTrip }
     ensures notes { NotesLeftOut }
 {
-    let size = size_as_read(roster);
+    let size = size_of(roster);
     if size > out.len() {
         return Err(Refusal::Short);
     }

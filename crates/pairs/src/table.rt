@@ -1,5 +1,7 @@
-ghost use Rattle.std.specs.Prelude.{◌≡◌, ◌<◌, true, length};
-ghost use Rattle.pairs.specs.Pairs.{Inverse, pair_machines, pair_number, primary_of, rows_right, standby_of};
+ghost use Rattle.std.specs.Prelude.{◌≡◌, true, length};
+ghost use Rattle.pairs.specs.Pairs.{Inverse, pair_machines, pair_number, rows_right};
+
+use std::cmp::Ordering;
 
 // The pairs: a primary and a standby machine in each row.
 static PAIRS: [(u8, u8); 240] = [
@@ -253,19 +255,11 @@ fn rows() -> &'static [(u8, u8); 240]
     &PAIRS
 }
 
-// One row of the table.
-fn row(q: u8) -> (u8, u8)
-    requires { q < 240 }
-    ensures { result ≡ (primary_of q, standby_of q) }
-{
-    rows()[q as usize]
-}
-
 // The primary and the standby machine of a pair byte. The bytes 240 to 255 are no pairs.
 pub fn machines_of(pair: u8) -> Option<(u8, u8)>
     ensures { result ≡ pair_machines pair }
 {
-    if pair < 240 { Some(row(pair)) } else { None }
+    rows().get(usize::from(pair)).copied()
 }
 
 // The pair byte of two different machines below 16.
@@ -273,12 +267,12 @@ pub fn pair_of(primary: u8, standby: u8) -> Option<u8>
     ensures number { result ≡ pair_number primary standby }
     ensures inverse { Inverse }
 {
-    if primary >= 16 || standby >= 16 || primary == standby {
+    if primary >= 16 || standby >= 16 {
         return None;
     }
-    if standby < primary {
-        Some(15 * primary + standby)
-    } else {
-        Some(15 * primary + (standby - 1))
+    match standby.cmp(&primary) {
+        Ordering::Less => Some(15 * primary + standby),
+        Ordering::Equal => None,
+        Ordering::Greater => Some(15 * primary + (standby - 1)),
     }
 }

@@ -1,5 +1,5 @@
 -- What is computed of bytes is exactly what they hold.
-use Rattle.std.proofs.Common.{◌≡◌, ℕ, zero, suc, ◌+◌, ◌<◌, ◌≤◌, Bool, true, cond, ◌&&◌, eqb, ltb, leb, List, [], ◌∷◌, ◌++◌, length, Some, None, Option, sym, refl, ap, ◌∙◌, subst, inl, inr, append_assoc, arith}
+use Rattle.std.proofs.Common.{◌≡◌, ℕ, zero, suc, ◌+◌, ◌<◌, ◌≤◌, Bool, true, cond, ◌&&◌, eqb, ltb, leb, List, [], ◌∷◌, ◌++◌, length, Some, None, Option, sym, refl, ap, ◌∙◌, subst, append_assoc, arith}
 use Rattle.std.proofs.lemmas.Bool.{and_parts, and_from, ltb-true, leb-true, eqb-true, lt-ltb, le-leb, eq-eqb}
 use Rattle.terms.specs.declared.draft.Draft.{Draft}
 use Rattle.terms.specs.Making.{Of}
@@ -9,7 +9,9 @@ use Rattle.planfile.specs.Format.{Rec, head, job, note, end, encode, Fits, JobFi
 use Rattle.planfile.specs.Jobs.{Places, placement_of}
 use Rattle.planfile.specs.File.{encode_all, Between, notes_in, RisingFrom, PlanFile}
 use Rattle.planfile.specs.Judging.{Onward, after_job, admitted, judge, judge_first, body_within, body_of, on_machines, under_head, by_head, plan_of, Agree}
-use Rattle.planfile.proofs.Ways.{split, none_some, same_some}
+use Rattle.std.proofs.lemmas.List.{nil_from_length}
+use Rattle.std.proofs.lemmas.Option.{none-some, same_Some, cond_some}
+use Rattle.planfile.proofs.Ways.{kept}
 use Rattle.planfile.proofs.Records.{reads_back, reads_only, byte_at}
 use Rattle.planfile.proofs.Places.{placed, placed_so, machines_are, small_status}
 use Rattle.planfile.proofs.Bodies.{body_step}
@@ -17,10 +19,6 @@ use Rattle.planfile.proofs.Bodies.{body_step}
 bytes_after : (xs ys : List ℕ) → Bytes (xs ++ ys) → Bytes ys
 bytes_after [] ys all = all
 bytes_after (x ∷ xs) ys all = bytes_after xs ys all.1
-
-none_left : (xs : List ℕ) → length xs ≡ 0 → xs ≡ []
-none_left [] e = refl
-none_left (x ∷ xs) e = absurd (let z : ⊥ = omega arith in z)
 
 -- the records after the head, after so many jobs and notes
 record Body (m last jobs notes : ℕ) (xs : List ℕ) (ps : List Placement) : Type 0 where
@@ -50,79 +48,70 @@ module _ (m : ℕ) where
       (a : Option Placement) → admitted m last jobs d q s ≡ a →
       (o : Option (List Placement)) → onward d.number (jobs + 1) notes rest ≡ o →
       after_job a o ≡ Some ps → Body m last jobs notes xs ps
-  job_so last jobs notes onward d q s xs rest ps sound all few e None is o go so = none_some ps (Body m last jobs notes xs ps) so
-  job_so last jobs notes onward d q s xs rest ps sound all few e (Some p) is None go so = none_some ps (Body m last jobs notes xs ps) so
+  job_so last jobs notes onward d q s xs rest ps sound all few e None is o go so = absurd (none-some ps so)
+  job_so last jobs notes onward d q s xs rest ps sound all few e (Some p) is None go so = absurd (none-some ps so)
   job_so last jobs notes onward d q s xs rest ps sound all few e (Some p) is (Some qs) go so =
-      elim (split (ltb jobs 96 && ltb last d.number) (placement_of m d q s) None (Some p) is) [
-        | inl w ↦
-            let tests = and_parts (ltb jobs 96) (ltb last d.number) w.0 in
-            let room : jobs < 96 = ltb-true jobs 96 tests.0 in
-            let above : last < d.number = ltb-true last d.number tests.1 in
-            let stands = placed_so m d q s p w.1 in
-            let same : number p ≡ d.number = stands.terms.number in
-            let b = sound d.number (jobs + 1) notes qs all (omega arith) few go in
-            subst (λ (v : List Placement). Body m last jobs notes xs v) (same_some (p ∷ qs) ps so)
-            (record {
-              items = job d q s ∷ b.items;
-              laid_out = laid (job d q s) b.items xs rest e b.laid_out;
-              between = (stands, b.between);
-              rising = (omega arith, subst (λ (v : ℕ). RisingFrom v qs) (sym same) b.rising);
-              few_jobs = omega (arith, b.few_jobs);
-              few_notes = b.few_notes;
-            })
-        | inr w ↦ none_some p (Body m last jobs notes xs ps) w.1
-      ]
+      let w = kept (ltb jobs 96 && ltb last d.number) (placement_of m d q s) p is in
+      let tests = and_parts (ltb jobs 96) (ltb last d.number) w.0 in
+      let room : jobs < 96 = ltb-true jobs 96 tests.0 in
+      let above : last < d.number = ltb-true last d.number tests.1 in
+      let stands = placed_so m d q s p w.1 in
+      let same : number p ≡ d.number = stands.terms.number in
+      let b = sound d.number (jobs + 1) notes qs all (omega arith) few go in
+      subst (λ (v : List Placement). Body m last jobs notes xs v) (same_Some (p ∷ qs) ps so)
+      (record {
+        items = job d q s ∷ b.items;
+        laid_out = laid (job d q s) b.items xs rest e b.laid_out;
+        between = (stands, b.between);
+        rising = (omega arith, subst (λ (v : ℕ). RisingFrom v qs) (sym same) b.rising);
+        few_jobs = omega (arith, b.few_jobs);
+        few_notes = b.few_notes;
+      })
 
   record_so :
       (last jobs notes : ℕ) (onward : Onward) (r : Rec) (xs rest : List ℕ) (ps : List Placement) →
       Sound onward rest → Bytes rest → jobs ≤ 96 → notes ≤ 64 → Fits r → xs ≡ encode r ++ rest →
       judge m last jobs notes onward r rest ≡ Some ps → Body m last jobs notes xs ps
-  record_so last jobs notes onward (head code k) xs rest ps sound all j n fits e so = none_some ps (Body m last jobs notes xs ps) so
+  record_so last jobs notes onward (head code k) xs rest ps sound all j n fits e so = absurd (none-some ps so)
   record_so last jobs notes onward (job d q s) xs rest ps sound all j n fits e so =
       job_so last jobs notes onward d q s xs rest ps sound all n e (admitted m last jobs d q s) refl
       (onward d.number (jobs + 1) notes rest) refl so
   record_so last jobs notes onward (note text) xs rest ps sound all j n fits e so =
-      elim (split (ltb notes 64) (onward last jobs (notes + 1) rest) None (Some ps) so) [
-        | inl w ↦
-            let room : notes < 64 = ltb-true notes 64 w.0 in
-            let b = sound last jobs (notes + 1) ps all j (omega arith) w.1 in
-            record {
-              items = note text ∷ b.items;
-              laid_out = laid (note text) b.items xs rest e b.laid_out;
-              between = (fits, b.between);
-              rising = b.rising;
-              few_jobs = b.few_jobs;
-              few_notes = omega (arith, b.few_notes);
-            }
-        | inr w ↦ none_some ps (Body m last jobs notes xs ps) w.1
-      ]
+      let w = kept (ltb notes 64) (onward last jobs (notes + 1) rest) ps so in
+      let room : notes < 64 = ltb-true notes 64 w.0 in
+      let b = sound last jobs (notes + 1) ps all j (omega arith) w.1 in
+      record {
+        items = note text ∷ b.items;
+        laid_out = laid (note text) b.items xs rest e b.laid_out;
+        between = (fits, b.between);
+        rising = b.rising;
+        few_jobs = b.few_jobs;
+        few_notes = omega (arith, b.few_notes);
+      }
   record_so last jobs notes onward end xs rest ps sound all j n fits e so =
-      elim (split (eqb (length rest) 0) (Some []) None (Some ps) so) [
-        | inl w ↦
-            subst (λ (v : List Placement). Body m last jobs notes xs v) (same_some [] ps w.1)
-            (record {
-              items = [];
-              laid_out = e ∙ ap (λ (v : List ℕ). 9 ∷ v) (none_left rest (eqb-true (length rest) 0 w.0));
-              between = tt;
-              rising = tt;
-              few_jobs = omega arith;
-              few_notes = omega arith;
-            })
-        | inr w ↦ none_some ps (Body m last jobs notes xs ps) w.1
-      ]
+      let w = cond_some (eqb (length rest) 0) [] ps so in
+      subst (λ (v : List Placement). Body m last jobs notes xs v) w.1
+      (record {
+        items = [];
+        laid_out = e ∙ ap (λ (v : List ℕ). 9 ∷ v) (nil_from_length rest (eqb-true (length rest) 0 w.0));
+        between = tt;
+        rising = tt;
+        few_jobs = omega arith;
+        few_notes = omega arith;
+      })
 
   first_so :
       (last jobs notes : ℕ) (onward : Onward) (xs : List ℕ) (ps : List Placement) (o : Option (Rec × List ℕ)) →
       ((rest : List ℕ) → Sound onward rest) → Bytes xs → jobs ≤ 96 → notes ≤ 64 → parse_record xs ≡ o →
       judge_first m last jobs notes onward o ≡ Some ps → Body m last jobs notes xs ps
-  first_so last jobs notes onward xs ps None sound all j n e so = none_some ps (Body m last jobs notes xs ps) so
+  first_so last jobs notes onward xs ps None sound all j n e so = absurd (none-some ps so)
   first_so last jobs notes onward xs ps (Some x) sound all j n e so =
       let read = reads_only xs x.0 x.1 all e in
       let after : Bytes x.1 = bytes_after (encode x.0) x.1 (subst Bytes read.0 all) in
       record_so last jobs notes onward x.0 xs x.1 ps (sound x.1) after j n read.1 read.0 so
 
   within_so : (k : ℕ) (rest : List ℕ) → Sound (body_within k m) rest
-  within_so zero rest last jobs notes ps all j n so = none_some ps (Body m last jobs notes rest ps) so
+  within_so zero rest last jobs notes ps all j n so = absurd (none-some ps so)
   within_so (suc k) rest last jobs notes ps all j n so =
       first_so last jobs notes (body_within k m) rest ps (parse_record rest) (within_so k) all j n refl so
 
@@ -213,7 +202,7 @@ under :
     ◌≡◌ {A = Option (ℕ × List Placement)} (Some (k, qs)) (Some (m, ps)) →
     PlanFile code xs m ps
 under code xs m ps c k rest qs laid_so same two sixteen b so =
-    let both : ◌≡◌ {A = ℕ × List Placement} (k, qs) (m, ps) = same_some (k, qs) (m, ps) so in
+    let both : ◌≡◌ {A = ℕ × List Placement} (k, qs) (m, ps) = same_Some (k, qs) (m, ps) so in
     let own : PlanFile c xs k qs = record {
       items = b.items;
       laid_out = laid_so ∙ ap (λ (v : List ℕ). encode (head c k) ++ v) b.laid_out;
@@ -235,32 +224,26 @@ head_so :
     (o : Option (List Placement)) → body_of k 0 0 0 rest ≡ o →
     cond (eqb c code && (leb 2 k && leb k 16)) (on_machines k o) None ≡ Some (m, ps) → PlanFile code xs m ps
 head_so code xs m ps c k rest laid_so all None is so =
-    elim (split (eqb c code && (leb 2 k && leb k 16)) None None (Some (m, ps)) so) [
-      | inl w ↦ none_some (m, ps) (PlanFile code xs m ps) w.1
-      | inr w ↦ none_some (m, ps) (PlanFile code xs m ps) w.1
-    ]
+    absurd (none-some (m, ps) (kept (eqb c code && (leb 2 k && leb k 16)) None (m, ps) so).1)
 head_so code xs m ps c k rest laid_so all (Some qs) is so =
-    elim (split (eqb c code && (leb 2 k && leb k 16)) (Some (k, qs)) None (Some (m, ps)) so) [
-      | inl w ↦
-          let a = and_parts (eqb c code) (leb 2 k && leb k 16) w.0 in
-          let b = and_parts (leb 2 k) (leb k 16) a.1 in
-          under code xs m ps c k rest qs laid_so (eqb-true c code a.0) (leb-true 2 k b.0) (leb-true k 16 b.1)
-          (body_so k rest qs all is) w.1
-      | inr w ↦ none_some (m, ps) (PlanFile code xs m ps) w.1
-    ]
+    let w = kept (eqb c code && (leb 2 k && leb k 16)) (Some (k, qs)) (m, ps) so in
+    let a = and_parts (eqb c code) (leb 2 k && leb k 16) w.0 in
+    let b = and_parts (leb 2 k) (leb k 16) a.1 in
+    under code xs m ps c k rest qs laid_so (eqb-true c code a.0) (leb-true 2 k b.0) (leb-true k 16 b.1)
+    (body_so k rest qs all is) w.1
 
 first_is :
     (code : ℕ) (xs : List ℕ) (m : ℕ) (ps : List Placement) (r : Rec) (rest : List ℕ) → xs ≡ encode r ++ rest → Bytes rest →
     under_head code r rest ≡ Some (m, ps) → PlanFile code xs m ps
 first_is code xs m ps (head c k) rest laid_so all so = head_so code xs m ps c k rest laid_so all (body_of k 0 0 0 rest) refl so
-first_is code xs m ps (job d q s) rest laid_so all so = none_some (m, ps) (PlanFile code xs m ps) so
-first_is code xs m ps (note text) rest laid_so all so = none_some (m, ps) (PlanFile code xs m ps) so
-first_is code xs m ps end rest laid_so all so = none_some (m, ps) (PlanFile code xs m ps) so
+first_is code xs m ps (job d q s) rest laid_so all so = absurd (none-some (m, ps) so)
+first_is code xs m ps (note text) rest laid_so all so = absurd (none-some (m, ps) so)
+first_is code xs m ps end rest laid_so all so = absurd (none-some (m, ps) so)
 
 held :
     (code : ℕ) (xs : List ℕ) (m : ℕ) (ps : List Placement) → Bytes xs → (o : Option (Rec × List ℕ)) → parse_record xs ≡ o →
     by_head code o ≡ Some (m, ps) → PlanFile code xs m ps
-held code xs m ps all None e so = none_some (m, ps) (PlanFile code xs m ps) so
+held code xs m ps all None e so = absurd (none-some (m, ps) so)
 held code xs m ps all (Some x) e so =
     let read = reads_only xs x.0 x.1 all e in
     first_is code xs m ps x.0 x.1 read.0 (bytes_after (encode x.0) x.1 (subst Bytes read.0 all)) so

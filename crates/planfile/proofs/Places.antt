@@ -1,6 +1,8 @@
 -- A job's record stands for at most one placement, and the test says whether for one.
-use Rattle.std.proofs.Common.{◌≡◌, ℕ, zero, suc, ◌+◌, ◌<◌, ◌≤◌, Bool, true, false, ltb, leb, is_some, IfSome, Some, None, Option, sym, refl, ap, subst, inl, inr, arith}
-use Rattle.std.proofs.lemmas.Bool.{and_parts, and_from, ltb-true, leb-true, lt-ltb, le-leb, both_ways}
+use Rattle.std.proofs.Common.{◌≡◌, ℕ, ◌<◌, ◌≤◌, Bool, true, false, ltb, is_some, IfSome, Some, None, Option, sym, refl, ap, subst, arith}
+use Rattle.std.proofs.lemmas.Bool.{and_parts, ltb-true, leb-true, both_ways}
+use Rattle.std.proofs.lemmas.Bool.Decides.{nat_tests}
+use Rattle.std.proofs.lemmas.Option.{none-some, same_Some}
 use Rattle.terms.specs.declared.draft.Draft.{Draft}
 use Rattle.terms.specs.declared.terms.Terms.{Terms}
 use Rattle.terms.specs.Limits.{lawful}
@@ -10,7 +12,6 @@ use Rattle.rack.specs.declared.placement.Status.{Status}
 use Rattle.rack.specs.declared.placement.Status.TheVariants.{Passive, Active}
 use Rattle.rack.specs.declared.placement.Placement.{Placement}
 use Rattle.pairs.specs.Pairs.{pair_machines, primary_of, standby_of}
-use Rattle.planfile.proofs.Ways.{split, none_some, same_some}
 use Rattle.planfile.specs.Jobs.{Places, placeable, placed_by, placement_of, status_byte, status_of}
 
 same_placement :
@@ -20,24 +21,11 @@ same_placement p o t a b s = λ i. record { terms = t i; primary = a i; standby 
 
 -- the numbers of terms keep the limits
 pub lawful_of : (d : Draft) (t : Terms) → Of d t → lawful d ≡ true
-lawful_of d t o =
-    and_from (leb 1 d.number) _ (le-leb 1 d.number (omega arith))
-    (and_from (leb d.number 65535) _ (le-leb d.number 65535 (omega arith))
-    (and_from (leb 1 d.run) _ (le-leb 1 d.run (omega arith))
-    (and_from (leb 1 d.standby) _ (le-leb 1 d.standby (omega arith))
-    (and_from (leb (d.lateness + d.run) d.deadline) _ (le-leb (d.lateness + d.run) d.deadline (omega arith))
-    (and_from (leb (d.lateness + d.standby) d.deadline) _ (le-leb (d.lateness + d.standby) d.deadline (omega arith))
-    (and_from (leb d.deadline d.period) _ (le-leb d.deadline d.period (omega arith)) (le-leb d.period 1000000 (omega arith))))))))
+lawful_of d t o = grind (arith, nat_tests)
 
 -- the machines of a pair
 pub machines_are : (q a b : ℕ) → pair_machines q ≡ Some (a, b) → (q < 240) × (primary_of q ≡ a) × (standby_of q ≡ b)
-machines_are q a b e =
-    elim (split (ltb q 240) (Some (primary_of q, standby_of q)) None (Some (a, b)) e) [
-      | inl w ↦
-          let same : ◌≡◌ {A = ℕ × ℕ} (primary_of q, standby_of q) (a, b) = same_some (primary_of q, standby_of q) (a, b) w.1 in
-          (ltb-true q 240 w.0, ap (λ (x : ℕ × ℕ). x.0) same, ap (λ (x : ℕ × ℕ). x.1) same)
-      | inr w ↦ none_some (a, b) ((q < 240) × (primary_of q ≡ a) × (standby_of q ≡ b)) w.1
-    ]
+machines_are q a b e = (grind (arith, nat_tests), grind (arith, nat_tests), grind (arith, nat_tests))
 
 status_back : (s : ℕ) (v : Status) → s ≡ status_byte v → status_of s ≡ v
 status_back s Passive e = rw e
@@ -48,20 +36,13 @@ small_status Passive = omega arith
 small_status Active = omega arith
 
 status_small : (s : ℕ) → s ≤ 1 → s ≡ status_byte (status_of s)
-status_small zero h = refl
-status_small (suc zero) h = refl
-status_small (suc (suc s)) h = absurd (let x : ⊥ = omega arith in x)
+status_small s h = grind (arith, nat_tests)
 
 module _ (m : ℕ) (d : Draft) (q s : ℕ) where
   places_test : (p : Placement) → Places m d q s p → placeable m d q s ≡ true
   places_test p h =
       let w = machines_are q p.primary p.standby h.machines in
-      let a : primary_of q < m = omega (arith, h.primary, w.1) in
-      let b : standby_of q < m = omega (arith, h.standby, w.2) in
-      and_from (lawful d) _ (lawful_of d p.terms h.terms)
-      (and_from (ltb q 240) _ (lt-ltb q 240 w.0)
-      (and_from (ltb (primary_of q) m) _ (lt-ltb (primary_of q) m a)
-      (and_from (ltb (standby_of q) m) _ (lt-ltb (standby_of q) m b) (le-leb s 1 (omega (arith, small_status p.status, h.status))))))
+      grind (arith, nat_tests, lawful_of d p.terms h.terms, w)
 
   found_by : (b : Bool) (e : placeable m d q s ≡ b) (p : Placement) → Places m d q s p → placed_by m d q s b e ≡ Some p
   found_by true e p h =
@@ -89,8 +70,8 @@ module _ (m : ℕ) (d : Draft) (q s : ℕ) where
         standby = ltb-true (standby_of q) m second.0;
         status = status_small s small;
       } in
-      subst (λ (x : Placement). Places m d q s x) (same_some it p f) stands
-  placed_by_so false e p f = none_some p (Places m d q s p) f
+      subst (λ (x : Placement). Places m d q s x) (same_Some it p f) stands
+  placed_by_so false e p f = absurd (none-some p f)
 
   -- the record stands for p exactly where the placement is p
   pub placed : (p : Placement) → Places m d q s p → placement_of m d q s ≡ Some p

@@ -1,11 +1,11 @@
 -- What is written is read back, and what is read was written so.
-use Rattle.std.proofs.Common.{◌≡◌, ℕ, zero, suc, ◌+◌, ◌<◌, ◌≤◌, eqb, ltb, List, [], ◌∷◌, ◌++◌, length, get_or, take, drop, Some, None, Option, sym, ap, ◌∙◌, subst, inl, inr, arith, length-append, length-drop, take-append-drop, length-take, drop-cons}
+use Rattle.std.proofs.Common.{◌≡◌, ℕ, zero, suc, ◌+◌, ◌<◌, ◌≤◌, List, [], ◌∷◌, ◌++◌, length, get_or, take, drop, Some, sym, ap, ◌∙◌, subst, arith, length-append, length-drop, take-append-drop, length-take, drop-cons}
 use lib.Seq.{take-append_seam, drop-append_seam}
 use Rattle.std.proofs.lemmas.List.{drop-drop}
-use Rattle.std.proofs.lemmas.Bool.{le-ltb, ne_eqb, ltb-false, eqb-true}
+use Rattle.std.proofs.lemmas.Bool.{le-ltb, ne_eqb}
+use Rattle.std.proofs.lemmas.Bool.Decides.{nat_tests}
 use Rattle.terms.specs.declared.draft.Draft.{Draft}
 use Rattle.planfile.specs.Format.{Rec, head, job, note, end, encode, Fits, Bytes, parse_record, of_kind, draft_at, job_at, ReadsBack, ReadsOnly, whole}
-use Rattle.planfile.proofs.Ways.{split, none_some}
 use Rattle.planfile.proofs.Numbers.{value_2, value_4, digits_2, digits_4}
 
 same_draft :
@@ -58,23 +58,10 @@ spanned (suc n) i xs h =
     drop-cons xs i 0 lt ∙ ap (λ (ys : List ℕ). get_or xs i 0 ∷ ys) (next ∙ ap (λ (k : ℕ). span n (suc i) xs ++ drop k xs) same)
 
 -- a whole record: its bytes are there, and what was read is it
-pub record Whole (n : ℕ) (xs : List ℕ) (found r : Rec) (rest : List ℕ) : Type 0 where
-  pub there : n ≤ length xs
-  pub is : found ≡ r
-  pub after : drop n xs ≡ rest
-
-whole_is : (n : ℕ) (xs : List ℕ) (found r : Rec) (rest : List ℕ) → whole n xs found ≡ Some (r, rest) → Whole n xs found r rest
-whole_is n xs found r rest e =
-    elim (split (ltb (length xs) n) None (Some (found, drop n xs)) (Some (r, rest)) e) [
-      | inl w ↦ none_some (r, rest) (Whole n xs found r rest) w.1
-      | inr w ↦
-          let both : ◌≡◌ {A = Rec × List ℕ} (found, drop n xs) (r, rest) = cc w.1 in
-          record {
-            there = ltb-false (length xs) n w.0;
-            is = ap (λ (x : Rec × List ℕ). x.0) both;
-            after = ap (λ (x : Rec × List ℕ). x.1) both;
-          }
-    ]
+whole_is :
+    (n : ℕ) (xs : List ℕ) (found r : Rec) (rest : List ℕ) → whole n xs found ≡ Some (r, rest) →
+    (n ≤ length xs) × (found ≡ r) × (drop n xs ≡ rest)
+whole_is n xs found r rest e = grind (arith, nat_tests)
 
 bytes_drop : (n : ℕ) (xs : List ℕ) → Bytes xs → Bytes (drop n xs)
 bytes_drop zero xs all = all
@@ -138,7 +125,7 @@ read_so :
     whole n xs found ≡ Some (r, rest) → Stands xs r rest
 read_so n xs found r rest stands e =
     let w = whole_is n xs found r rest e in
-    subst (λ (v : List ℕ). Stands xs r v) w.after (subst (λ (v : Rec). Stands xs v (drop n xs)) w.is (stands w.there))
+    subst (λ (v : List ℕ). Stands xs r v) w.2 (subst (λ (v : Rec). Stands xs v (drop n xs)) w.1 (stands w.0))
 
 -- which kind of record was read
 pub by_kind :
@@ -147,25 +134,7 @@ pub by_kind :
     (get_or xs 0 0 ≡ 2 → whole 25 xs (job_at xs) ≡ Some (r, rest) → P) →
     (get_or xs 0 0 ≡ 3 → whole 17 xs (note (take 16 (drop 1 xs))) ≡ Some (r, rest) → P) →
     (get_or xs 0 0 ≡ 9 → whole 1 xs end ≡ Some (r, rest) → P) → P
-by_kind xs r rest P e of_head of_job of_note of_end =
-    let out : Option (Rec × List ℕ) = Some (r, rest) in
-    let k = get_or xs 0 0 in
-    elim (split (eqb (length xs) 0) None (of_kind k xs) out e) [
-      | inl w ↦ none_some (r, rest) P w.1
-      | inr w ↦ elim (split (eqb k 1) (whole 3 xs (head (get_or xs 1 0) (get_or xs 2 0))) _ out w.1) [
-        | inl v ↦ of_head (eqb-true k 1 v.0) v.1
-        | inr v ↦ elim (split (eqb k 2) (whole 25 xs (job_at xs)) _ out v.1) [
-          | inl u ↦ of_job (eqb-true k 2 u.0) u.1
-          | inr u ↦ elim (split (eqb k 3) (whole 17 xs (note (take 16 (drop 1 xs)))) _ out u.1) [
-            | inl t ↦ of_note (eqb-true k 3 t.0) t.1
-            | inr t ↦ elim (split (eqb k 9) (whole 1 xs end) None out t.1) [
-              | inl s ↦ of_end (eqb-true k 9 s.0) s.1
-              | inr s ↦ none_some (r, rest) P s.1
-            ]
-          ]
-        ]
-      ]
-    ]
+by_kind xs r rest P e of_head of_job of_note of_end = grind (arith, nat_tests)
 
 pub reads_only : ReadsOnly
 reads_only xs r rest all e =
@@ -180,7 +149,7 @@ whole_shorter :
     length rest < length xs
 whole_shorter n xs found r rest h e =
     let w = whole_is n xs found r rest e in
-    omega (arith, length-drop n xs, ap length w.after, w.there)
+    omega (arith, length-drop n xs, ap length w.2, w.0)
 
 -- a record has a byte
 pub shorter : (xs : List ℕ) (r : Rec) (rest : List ℕ) → parse_record xs ≡ Some (r, rest) → length rest < length xs

@@ -1,4 +1,5 @@
-ghost use Rattle.std.specs.Prelude.{◌≡◌, ◌+◌, ◌<◌, ◌≤◌, length, drop, IfSome, MatchOption, ◌==◌};
+ghost use Rattle.std.specs.Prelude.{⊤, ◌≡◌, ◌+◌, ◌<◌, ◌≤◌, length, drop, IfSome, MatchOption, ◌==◌};
+ghost use Rattle.std.specs.Iterator.{MakesProgress, item_count};
 ghost use Rattle.planfile.specs.Format.{ReadsBack, ReadsOnly, job_at, number_2, number_4, parse_record};
 ghost use Rattle.planfile.specs.Shown.{ahead, rec_of, shown, shown_first};
 
@@ -7,11 +8,12 @@ use crate::record::{JobRecord, Record};
 use terms::Draft;
 
 // A number of two bytes, the high one first.
+// A const parameter would make the array alone, since each width has a conversion of its own.
 fn two_bytes(bytes: &[u8], at: usize) -> u32
     requires { at + 2 ≤ length bytes.now }
     ensures { result ≡ number_2 bytes.now at }
 {
-    u32::from(bytes[at]) * 256 + u32::from(bytes[at + 1])
+    u32::from(u16::from_be_bytes([bytes[at], bytes[at + 1]]))
 }
 
 // A number of four bytes, the highest one first.
@@ -59,39 +61,16 @@ fn read_one<'a>(bytes: &'a [u8]) -> Option<(Record<'a>, usize)>
     ensures reads { parse_record bytes.now ≡ shown_first result bytes.now }
     ensures sizes { IfSome result (λ p. (0 < p.1) × (p.1 ≤ length bytes.now)) }
 {
-    let n = bytes.len();
-    if n == 0 {
-        return None;
-    }
-    let kind = bytes[0];
-    if kind == 1 {
-        if n < 3 {
-            return None;
+    match bytes {
+        [1, code, machines, ..] => {
+            let (code, machines) = (*code, *machines);
+            Some((Record::Head { code, machines }, 3))
         }
-        return Some((
-            Record::Head {
-                code: bytes[1],
-                machines: bytes[2],
-            },
-            3,
-        ));
+        [2, ..] if bytes.len() >= 25 => Some((Record::Job(read_job(bytes)), 25)),
+        [3, ..] if bytes.len() >= 17 => Some((Record::Note(&bytes[1..17]), 17)),
+        [9, ..] => Some((Record::End, 1)),
+        _ => None,
     }
-    if kind == 2 {
-        if n < 25 {
-            return None;
-        }
-        return Some((Record::Job(read_job(bytes)), 25));
-    }
-    if kind == 3 {
-        if n < 17 {
-            return None;
-        }
-        return Some((Record::Note(&bytes[1..17]), 17));
-    }
-    if kind == 9 {
-        return Some((Record::End, 1));
-    }
-    None
 }
 
 impl<'a> Reader<'a> {
@@ -106,10 +85,8 @@ impl<'a> Reader<'a> {
     fn rest(&self) -> &'a [u8]
         ensures part { result.now ≡ ahead self.now }
         ensures size { self.now.at + length result.now ≡ length self.now.bytes.now }
-        ensures format { ReadsBack × ReadsOnly }
     {
-        let (_, rest) = self.bytes.split_at(self.at);
-        rest
+        &self.bytes[self.at..]
     }
 
     // Past that many bytes.
@@ -121,25 +98,31 @@ impl<'a> Reader<'a> {
         self.at += size;
     }
 
-    // The next record, and past it; where no whole record stands next, the reader stays.
-    pub fn next(&mut self) -> Option<Record<'a>>
-        ensures reads { parse_record (ahead self.old) ≡ shown result (ahead self.new) }
-        ensures moves { MatchOption result (ahead self.new ≡ ahead self.old) (λ _. length (ahead self.new) < length (ahead self.old)) }
-        ensures format { ReadsBack × ReadsOnly }
-    {
-        match read_one(self.rest()) {
-            None => None,
-            Some((record, size)) => {
-                self.advance(size);
-                Some(record)
-            }
-        }
-    }
-
     // Whether every byte has been read.
     pub fn at_end(&self) -> bool
         ensures { result ≡ (length (ahead self.now) == 0) }
     {
         self.rest().is_empty()
+    }
+}
+
+// The records, one after the other; where no whole record stands next, the reader stays.
+impl<'a> Iterator for Reader<'a> {
+    type Item = Record<'a>;
+
+    ghost next_gives = { λ s r t. parse_record (ahead s) ≡ shown r (ahead t) };
+
+    // Every record has a byte.
+    ghost remaining = { item_count ahead };
+
+    fn next(&mut self) -> Option<Record<'a>>
+        ensures reads { parse_record (ahead self.old) ≡ shown result (ahead self.new) }
+        ensures moves { MatchOption result (ahead self.new ≡ ahead self.old) (λ _. length (ahead self.new) < length (ahead self.old)) }
+        ensures format { ReadsBack × ReadsOnly }
+        ensures goes { MakesProgress (λ _. ⊤) (item_count ahead) self.old result self.new }
+    {
+        let (record, size) = read_one(self.rest())?;
+        self.advance(size);
+        Some(record)
     }
 }

@@ -1,7 +1,7 @@
 use terms::Draft;
 
-// A job as a file has it, not yet judged.
-#[derive(Clone, Copy)]
+// A job as a file has it: its numbers, pair and status are the file's bytes, not yet judged.
+#[derive(Clone, Copy, PartialEq, Eq, Debug)]
 pub struct JobRecord {
     pub draft: Draft,
     pub pair: u8,
@@ -9,7 +9,7 @@ pub struct JobRecord {
 }
 
 // One record of a plan file. A note is that part of the file.
-#[derive(Drop)]
+#[derive(Clone, Copy, PartialEq, Eq, Debug)]
 pub enum Record<'a> {
     // 1
     Head { code: u8, machines: u8 },
