@@ -27,7 +27,7 @@ pub(crate) fn quiet_of<R: Precedence>(
 }
 
 // How late the job's standby is while it is passive.
-fn late_of<R: Precedence>(
+pub(crate) fn late_of<R: Precedence>(
     rule: &R,
     placements: &[Placement],
     p: &Placement,

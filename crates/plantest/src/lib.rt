@@ -13,6 +13,6 @@ mod workspace;
 
 pub use answering::job_figures;
 pub use check::{check_plan, roster_passes};
-pub use parts::{pair_passes, quiet_figure};
+pub use parts::{pair_passes, passive_lateness, quiet_figure};
 pub use verdict::Verdict;
 pub use workspace::Workspace;

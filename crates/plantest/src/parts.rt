@@ -1,8 +1,8 @@
 ghost use Rattle.std.specs.Prelude.{◌≡◌};
-ghost use Rattle.rack.specs.Sets.{quiet_figure};
+ghost use Rattle.rack.specs.Sets.{passive_late, quiet_figure};
 ghost use Rattle.plantest.specs.Sweep.{pair_with};
 
-use crate::answering::quiet_of;
+use crate::answering::{late_of, quiet_of};
 use crate::sweep::pair_fits_with;
 use crate::workspace::Workspace;
 use precedence::Precedence;
@@ -19,6 +19,18 @@ pub fn quiet_figure<R: Precedence>(
     ensures { result ≡ quiet_figure (R.Precedence.before rule.now) roster.now.placements.items p.now }
 {
     quiet_of(rule, roster.placements(), p, &mut space.copies)
+}
+
+// How late the standby of a job is while it is passive, in the plan of a roster.
+pub fn passive_lateness<R: Precedence>(
+    rule: &R,
+    roster: &Roster,
+    p: &Placement,
+    space: &mut Workspace,
+) -> u32
+    ensures { result ≡ passive_late (R.Precedence.before rule.now) roster.now.placements.items p.now }
+{
+    late_of(rule, roster.placements(), p, &mut space.copies)
 }
 
 // Whether there is a lateness for each placement of a roster, and every copy in the loss set of g when f stops
