@@ -3,11 +3,15 @@
 #![tactic(auto)]
 
 mod answering;
+mod buffer;
 mod check;
 mod gather;
+mod known;
 mod listing;
 mod parts;
+mod quiet;
 mod sweep;
+mod tested;
 mod verdict;
 mod workspace;
 
