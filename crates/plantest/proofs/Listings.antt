@@ -1,12 +1,12 @@
 -- Lists of placements that are plans.
 use Rattle.std.proofs.Common.{◌≡◌, ℕ, ◌≤◌, true, false, not, ◌||◌, eqb, List, [], ◌∷◌, length, sym, refl, ap, ◌∙◌, inl, inr}
 use Rattle.std.specs.List.{list_any}
-use Rattle.std.proofs.lemmas.Bool.{and_from, and_parts, both_ways, eq-eqb, ne_eqb, eqb-false, or_left, or_right, or_from, not-true, not_from_false, leb-true, le-leb, ltb-true, lt-ltb}
+use Rattle.std.proofs.lemmas.Bool.{and_from, and_parts, both_ways, eq-eqb, ne_eqb, or_left, or_right, or_from, not-true, not_from_false, leb-true, le-leb, lt-ltb}
 use Rattle.rack.specs.declared.placement.Placement.{Placement}
 use Rattle.rack.specs.Plan.{In, number, Once, Placed, Plan}
 use Rattle.rack.proofs.Tested.{all_of_each, each_all_of}
 use Rattle.roster.specs.Rising.{placed, rising, all_placed}
-use Rattle.roster.proofs.Ordered.{roster_arranged}
+use Rattle.roster.proofs.Ordered.{placed_here, roster_arranged}
 use Rattle.plantest.specs.PlanTest.{has_number, each_once, is_plan}
 
 -- a job that is there is found
@@ -37,16 +37,6 @@ pub once_true : (ps : List Placement) → Once ps → each_once ps ≡ true
 once_true [] once = refl
 once_true (p ∷ ps) once = and_from _ _ (not_from_false _ (has_not ps (number p) once.0)) (once_true ps once.1)
 
-pub placed_means : (m : ℕ) (p : Placement) → placed m p ≡ true → Placed m p
-placed_means m p e =
-    let a = and_parts _ _ e in
-    let b = and_parts _ _ a.1 in
-    record {
-      primary = ltb-true p.primary m a.0;
-      standby = ltb-true p.standby m b.0;
-      apart = eqb-false p.primary p.standby (not-true _ b.1);
-    }
-
 pub placed_true : (m : ℕ) (p : Placement) → Placed m p → placed m p ≡ true
 placed_true m p at =
     and_from _ _ (lt-ltb p.primary m at.primary) (and_from _ _ (lt-ltb p.standby m at.standby) (not_from_false _ (ne_eqb p.primary p.standby at.apart)))
@@ -64,7 +54,7 @@ module _ (m : ℕ) (ps : List Placement) where
         few = leb-true (length ps) 96 b.0;
         arranged = record {
           once = once_means ps c.1;
-          placed = λ p in_ps. placed_means m p (all_of_each (placed m) ps p c.0 in_ps);
+          placed = λ p in_ps. placed_here m p (all_of_each (placed m) ps p c.0 in_ps);
         };
       }
 

@@ -1,6 +1,6 @@
 -- The sweep, step by step, and that it is the plan test.
 use Rattle.std.proofs.Common.{◌≡◌, ℕ, ◌<◌, Bool, true, false, not, ◌&&◌, ◌||◌, eqb, List, [], ◌∷◌, ◌⊎◌, map, is_some, Option, sym, refl, ap, ◌∙◌, ⊎_elim}
-use Rattle.std.proofs.lemmas.Bool.{and_from, and_parts, both_ways, cases_eq, eq-eqb, eqb-true, ne_eqb}
+use Rattle.std.proofs.lemmas.Bool.{and_from, and_parts, and_left, and_right, or_right, both_ways, cases_eq, eq-eqb, eqb-true, ne_eqb}
 use Rattle.terms.specs.declared.terms.Terms.{Terms}
 use Rattle.figures.specs.declared.copies.JobCopy.{JobCopy}
 use Rattle.figures.specs.Figure.{figure_of}
@@ -43,10 +43,6 @@ pair_is before ps lates g f figures =
 or_second : (a b : Bool) → a ≡ false → (a || b) ≡ true → b ≡ true
 or_second true b e t = absurd (both_ways true e refl)
 or_second false b e t = t
-
-or_from_second : (a b : Bool) → b ≡ true → (a || b) ≡ true
-or_from_second true b t = refl
-or_from_second false b t = t
 
 -- a premise as a test: it is not met, or what it asks holds
 unless : (a b : Bool) → (a ≡ true → b ≡ true) → (not a || b) ≡ true
@@ -107,28 +103,20 @@ module _ (before : Terms → Terms → Bool) (m : ℕ) (ps : List Placement) (ar
       (λ f f_in.
       ⊎_elim
       (λ same. ap (λ z. z || pair_passes before ps g f) (eq-eqb f g same))
-      (λ other. or_from_second (eqb f g) (pair_passes before ps g f) (each_all_of (pair_fits before ps g f) ps (pair_true g f f_in other pass)))
+      (λ other. or_right (eqb f g) (pair_passes before ps g f) (each_all_of (pair_fits before ps g f) ps (pair_true g f f_in other pass)))
       (cases_eq f g))))
 
   -- the sweep is the plan test
   pub sweep_is : sweep before m ps ≡ passes before m ps
   sweep_is = same_test (sweep before m ps) (passes before m ps) (λ swept. passes_true before m ps (sweep_means swept)) (λ passed. sweep_true (passes_means before m ps passed))
 
-  and_first_false : (a b : Bool) → a ≡ false → (a && b) ≡ false
-  and_first_false true b e = absurd (both_ways true e refl)
-  and_first_false false b e = refl
-
-  and_second_false : (a b : Bool) → b ≡ false → (a && b) ≡ false
-  and_second_false true b e = e
-  and_second_false false b e = refl
-
   -- a primary without a quiet figure fails the plan
   pub quiet_fails : quiet_passes before ps ≡ false → passes before m ps ≡ false
-  quiet_fails e = sym sweep_is ∙ and_first_false _ _ e
+  quiet_fails e = sym sweep_is ∙ and_left _ _ e
 
   -- so does a machine
   pub machine_fails : (g : ℕ) → g < m → machine_passes before m ps g ≡ false → passes before m ps ≡ false
-  machine_fails g g_in e = sym sweep_is ∙ and_second_false _ _ (all_below_part_false (machine_passes before m ps) m g g_in e)
+  machine_fails g g_in e = sym sweep_is ∙ and_right _ _ (all_below_part_false (machine_passes before m ps) m g g_in e)
 
   pub all_swept : quiet_passes before ps ≡ true → all_below m (machine_passes before m ps) ≡ true → passes before m ps ≡ true
   all_swept quiet machines = sym sweep_is ∙ and_from _ _ quiet machines

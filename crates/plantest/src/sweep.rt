@@ -54,10 +54,7 @@ impl<'a, R: Precedence> Known<'a, R> {
     fn lost_fits(&self, g: u8, f: u8, copies: &mut Copies) -> bool
         ensures { result ≡ lost_passes (R.Precedence.before self.now.tested.now.rule.now) self.now.tested.now.placements.now g f }
     {
-        if f == g {
-            return true;
-        }
-        self.pair_fits(g, f, copies)
+        f == g || self.pair_fits(g, f, copies)
     }
 
     // Whether every copy on g has its figures, whichever other machine stops.
