@@ -1,11 +1,12 @@
 -- Lists of placements that are plans.
-use Rattle.std.proofs.Common.{◌≡◌, ℕ, zero, suc, ◌+◌, ◌<◌, ◌≤◌, true, false, not, ◌&&◌, eqb, List, [], ◌∷◌, length, get_or, take, drop, sym, refl, ap, ◌∙◌, inl, inr, le_of_suc-le-suc, not-suc-le-zero, add-one, drop-cons}
-use Rattle.std.proofs.lemmas.List.{drop_all}
-use Rattle.std.proofs.lemmas.Bool.{and_from, and_parts, both_ways, eq-eqb, ne_eqb, eqb-false, or_parts, or_left, or_right, or_from, not-true, not_from_false, leb-true, le-leb, ltb-true, lt-ltb}
+use Rattle.std.proofs.Common.{◌≡◌, ℕ, ◌≤◌, true, false, not, ◌||◌, eqb, List, [], ◌∷◌, length, sym, refl, ap, ◌∙◌, inl, inr}
+use Rattle.std.specs.List.{list_any}
+use Rattle.std.proofs.lemmas.Bool.{and_from, and_parts, both_ways, eq-eqb, ne_eqb, or_left, or_right, or_from, not-true, not_from_false, leb-true, le-leb, lt-ltb}
 use Rattle.rack.specs.declared.placement.Placement.{Placement}
 use Rattle.rack.specs.Plan.{In, number, Once, Placed, Plan}
 use Rattle.rack.proofs.Tested.{all_of_each, each_all_of}
-use Rattle.roster.specs.Rising.{placed}
+use Rattle.roster.specs.Rising.{placed, rising, all_placed}
+use Rattle.roster.proofs.Ordered.{placed_here, roster_arranged}
 use Rattle.plantest.specs.PlanTest.{has_number, each_once, is_plan}
 
 -- a job that is there is found
@@ -14,26 +15,10 @@ has_it [] p none = elim none [ ]
 has_it (q ∷ ps) p (inl same) = or_left _ _ (eq-eqb (number q) (number p) (ap number (sym same)))
 has_it (q ∷ ps) p (inr rest) = or_right _ _ (has_it ps p rest)
 
--- one placement more without the number
-pub has_not_more : (n : ℕ) (ps : List Placement) (i : ℕ) (p : Placement) → i < length ps → p ≡ get_or ps i p → has_number n (take i ps) ≡ false → (number p ≡ n → ⊥) → has_number n (take (i + 1) ps) ≡ false
-has_not_more n ps i p lt read none other = rw add-one (go ps i lt read none)
-  where
-    go : (ps : List Placement) (i : ℕ) → i < length ps → p ≡ get_or ps i p → has_number n (take i ps) ≡ false → has_number n (take (suc i) ps) ≡ false
-    go [] i lt read none = absurd (not-suc-le-zero lt)
-    go (q ∷ ps) zero lt read none = or_from _ _ (ne_eqb (number q) n (λ e. other (ap number read ∙ e))) refl
-    go (q ∷ ps) (suc i) lt read none =
-        let parts = or_parts (eqb (number q) n) (has_number n (take i ps)) none in
-        or_from _ _ parts.0 (go ps i (le_of_suc-le-suc lt) read parts.1)
-
--- from a place on: the job there stands once, and so do those after it
-pub once_from : (ps : List Placement) (i : ℕ) (p : Placement) → i < length ps → p ≡ get_or ps i p → each_once (drop i ps) ≡ (not (has_number (number p) (drop (i + 1) ps)) && each_once (drop (i + 1) ps))
-once_from ps i p lt read =
-    rw add-one
-    (ap each_once (drop-cons ps i p lt) ∙ ap (λ q. not (has_number (number q) (drop (suc i) ps)) && each_once (drop (suc i) ps)) (sym read))
-
--- the last place of all has been looked at
-pub once_end : (ps : List Placement) (i : ℕ) → length ps ≤ i → each_once (drop i ps) ≡ true
-once_end ps i past = ap each_once (drop_all i ps past)
+-- a number is found where some job has it
+pub any_has_number : (n : ℕ) (ps : List Placement) → list_any (λ p. eqb (number p) n) ps ≡ has_number n ps
+any_has_number n [] = refl
+any_has_number n (p ∷ ps) = ap (λ b. eqb (number p) n || b) (any_has_number n ps)
 
 not_has : (ps : List Placement) (n : ℕ) → has_number n ps ≡ false → (q : Placement) → In q ps → number q ≡ n → ⊥
 not_has ps n none q in_ps e = both_ways _ none (ap (λ k. has_number k ps) (sym e) ∙ has_it ps q in_ps)
@@ -52,16 +37,6 @@ pub once_true : (ps : List Placement) → Once ps → each_once ps ≡ true
 once_true [] once = refl
 once_true (p ∷ ps) once = and_from _ _ (not_from_false _ (has_not ps (number p) once.0)) (once_true ps once.1)
 
-pub placed_means : (m : ℕ) (p : Placement) → placed m p ≡ true → Placed m p
-placed_means m p e =
-    let a = and_parts _ _ e in
-    let b = and_parts _ _ a.1 in
-    record {
-      primary = ltb-true p.primary m a.0;
-      standby = ltb-true p.standby m b.0;
-      apart = eqb-false p.primary p.standby (not-true _ b.1);
-    }
-
 pub placed_true : (m : ℕ) (p : Placement) → Placed m p → placed m p ≡ true
 placed_true m p at =
     and_from _ _ (lt-ltb p.primary m at.primary) (and_from _ _ (lt-ltb p.standby m at.standby) (not_from_false _ (ne_eqb p.primary p.standby at.apart)))
@@ -79,7 +54,7 @@ module _ (m : ℕ) (ps : List Placement) where
         few = leb-true (length ps) 96 b.0;
         arranged = record {
           once = once_means ps c.1;
-          placed = λ p in_ps. placed_means m p (all_of_each (placed m) ps p c.0 in_ps);
+          placed = λ p in_ps. placed_here m p (all_of_each (placed m) ps p c.0 in_ps);
         };
       }
 
@@ -89,3 +64,8 @@ module _ (m : ℕ) (ps : List Placement) where
       (and_from _ _ (le-leb 2 m plan.from_two) (le-leb m 16 plan.to_sixteen))
       (and_from _ _ (le-leb (length ps) 96 plan.few)
       (and_from _ _ (each_all_of (placed m) ps (λ p in_ps. placed_true m p (plan.arranged.placed p in_ps))) (once_true ps plan.arranged.once)))
+
+-- the placements of a roster are a plan
+pub roster_plan : (m : ℕ) (ps : List Placement) → 2 ≤ m → m ≤ 16 → length ps ≤ 96 → rising ps ≡ true → all_placed m ps ≡ true → is_plan m ps ≡ true
+roster_plan m ps from_two to_sixteen few up all =
+    plan_true m ps (record { from_two = from_two; to_sixteen = to_sixteen; few = few; arranged = roster_arranged m ps up all })

@@ -1,91 +1,27 @@
 -- The sweep, step by step, and that it is the plan test.
-use Rattle.std.proofs.Common.{◌≡◌, ℕ, zero, suc, ◌+◌, ◌<◌, max, Bool, true, false, cond, not, ◌&&◌, ◌||◌, eqb, List, [], ◌∷◌, ◌++◌, map, length, get_or, take, is_some, Some, Option, unwrap_or, sym, refl, ap, ◌∙◌, ⊎_elim, le_of_suc-le-suc, not-suc-le-zero, add-one}
-use Rattle.std.proofs.lemmas.Bool.{and_from, and_parts, and_left, and_right, both_ways, cases_eq, eq-eqb, eqb-true, ne_eqb}
+use Rattle.std.proofs.Common.{◌≡◌, ℕ, ◌<◌, Bool, true, false, not, ◌&&◌, ◌||◌, eqb, List, [], ◌∷◌, ◌⊎◌, map, is_some, Option, sym, refl, ap, ◌∙◌, ⊎_elim}
+use Rattle.std.proofs.lemmas.Bool.{and_from, and_parts, and_left, and_right, or_right, both_ways, cases_eq, eq-eqb, eqb-true, ne_eqb}
 use Rattle.terms.specs.declared.terms.Terms.{Terms}
 use Rattle.figures.specs.declared.copies.JobCopy.{JobCopy}
-use Rattle.figures.specs.declared.copies.Role.TheVariants.{Standby}
 use Rattle.figures.specs.Figure.{figure_of}
 use Rattle.rack.specs.declared.placement.Placement.{Placement}
-use Rattle.rack.specs.Plan.{In, Arranged, active}
-use Rattle.rack.specs.Sets.{copy_of, primary_copy, standby_copy, quiet, quiet_figure, passive_late, loss}
+use Rattle.rack.specs.Plan.{In, Arranged}
+use Rattle.rack.specs.Sets.{primary_copy, standby_copy, passive_late, loss}
 use Rattle.rack.specs.Test.{all_of, all_below, loss_figure, standby_figure, Passes, passes}
-use Rattle.rack.proofs.Tested.{all_of_more, all_of_each, each_all_of, all_below_each, each_all_below, all_below_part_false, passes_means, passes_true}
+use Rattle.rack.proofs.Tested.{all_of_each, each_all_of, all_below_each, each_all_below, all_below_part_false, passes_means, passes_true}
 use Rattle.plantest.specs.Parts.{loss_with}
-use Rattle.plantest.specs.JobFigures.{largest_lost, lost_shown}
-use Rattle.plantest.specs.Sweep.{copies_fit, has_quiet, pair_fits, pair_passes, lost_passes, machine_passes, quiet_passes, sweep, late_fits, all_fit}
+use Rattle.plantest.specs.Sweep.{has_quiet, pair_fits, pair_passes, lost_passes, machine_passes, quiet_passes, sweep, late_fits, all_fit}
 use Rattle.plantest.proofs.Gathers.{loss_is}
 
-module _ (before : Terms → Terms → Bool) where
-  -- the figure of the primary in the gathered set is the quiet figure
-  pub quiet_found : (ps : List Placement) (p : Placement) (set : List JobCopy) (own : JobCopy) (r : Option ℕ) → r ≡ figure_of before set own → set ≡ quiet p.primary ps → own ≡ primary_copy p → r ≡ quiet_figure before ps p
-  quiet_found ps p set own r is gathered copied = is ∙ ap (λ s. figure_of before s own) gathered ∙ ap (λ o. figure_of before (quiet p.primary ps) o) copied
-
-  -- the figure, where there is one, is the passive lateness
-  pub passive_found : (ps : List Placement) (p : Placement) (late : ℕ) → Some late ≡ quiet_figure before ps p → late ≡ passive_late before ps p
-  passive_found ps p late is = ap (λ r. unwrap_or r p.terms.deadline) is
-
-  -- a figure more
-  pub quiet_more : (all ps : List Placement) (n : ℕ) (p : Placement) (late : ℕ) → n < length ps → p ≡ get_or ps n p → Some late ≡ quiet_figure before all p → all_of (has_quiet before all) (take n ps) ≡ true → all_of (has_quiet before all) (take (n + 1) ps) ≡ true
-  quiet_more all ps n p late lt read is so_far =
-      all_of_more (has_quiet before all) ps n p lt read ∙ and_from _ _ so_far (ap is_some (sym is))
-
-pub map_more : {A B : Type 0} (f : A → B) (xs : List A) (n : ℕ) (x : A) → n < length xs → x ≡ get_or xs n x → map f (take (n + 1) xs) ≡ map f (take n xs) ++ f x ∷ []
-map_more {A} {B} f xs n x lt read = rw add-one (go xs n lt read)
+-- where the placements or the latenesses end, all fit
+pub all_fit_end :
+    (before : Terms → Terms → Bool) (set : List JobCopy) (g f : ℕ) (lates : List ℕ) (ps : List Placement) → (ps ≡ []) ⊎ (lates ≡ []) →
+    all_fit before set g f lates ps ≡ true
+all_fit_end before set g f lates ps ended = ⊎_elim (λ e. ap (all_fit before set g f lates) e ∙ no_job lates) (λ e. ap (λ l. all_fit before set g f l ps) e) ended
   where
-    go : (xs : List A) (n : ℕ) → n < length xs → x ≡ get_or xs n x → map f (take (suc n) xs) ≡ map f (take n xs) ++ f x ∷ []
-    go [] n lt read = absurd (not-suc-le-zero lt)
-    go (y ∷ xs) zero lt read = ap (λ z. f z ∷ []) (sym read)
-    go (y ∷ xs) (suc n) lt read = ap (λ z. f y ∷ z) (go xs n (le_of_suc-le-suc lt) read)
-
--- a place of a mapped list
-pub map_at : {A : Type 0} (f : A → ℕ) (xs : List A) (n : ℕ) (x : A) → n < length xs → x ≡ get_or xs n x → get_or (map f xs) n 0 ≡ f x
-map_at f [] n x lt read = absurd (not-suc-le-zero lt)
-map_at f (y ∷ xs) zero x lt read = ap f (sym read)
-map_at f (y ∷ xs) (suc n) x lt read = map_at f xs n x (le_of_suc-le-suc lt) read
-
-pub map_length : {A B : Type 0} (f : A → B) (xs : List A) → length (map f xs) ≡ length xs
-map_length f [] = refl
-map_length f (x ∷ xs) = ap suc (map_length f xs)
-
-module _ (before : Terms → Terms → Bool) (set : List JobCopy) (g f : ℕ) where
-  -- one placement more
-  pub all_fit_more :
-      (lates : List ℕ) (ps : List Placement) (n late : ℕ) (p : Placement) → n < length ps → n < length lates → late ≡ get_or lates n 0 → p ≡ get_or ps n p →
-      all_fit before set g f (take (n + 1) lates) (take (n + 1) ps) ≡ (all_fit before set g f (take n lates) (take n ps) && late_fits before set g f late p)
-  all_fit_more lates ps n late p lt few is read = rw add-one (go lates ps n lt few is read)
-    where
-      and_last : (a b c d : Bool) → b ≡ (c && d) → (a && b) ≡ ((a && c) && d)
-      and_last true b c d e = e
-      and_last false b c d e = refl
-
-      and_one : (a b : Bool) → a ≡ b → (a && true) ≡ (true && b)
-      and_one true b e = e
-      and_one false b e = e
-
-      go :
-          (lates : List ℕ) (ps : List Placement) (n : ℕ) → n < length ps → n < length lates → late ≡ get_or lates n 0 → p ≡ get_or ps n p →
-          all_fit before set g f (take (suc n) lates) (take (suc n) ps) ≡ (all_fit before set g f (take n lates) (take n ps) && late_fits before set g f late p)
-      go lates [] n lt few is read = absurd (not-suc-le-zero lt)
-      go [] (q ∷ ps) n lt few is read = absurd (not-suc-le-zero few)
-      go (l ∷ lates) (q ∷ ps) zero lt few is read =
-          and_one (late_fits before set g f l q) (late_fits before set g f late p)
-          (ap (λ z. late_fits before set g f z q) (sym is) ∙ ap (late_fits before set g f late) (sym read))
-      go (l ∷ lates) (q ∷ ps) (suc n) lt few is read =
-          and_last (late_fits before set g f l q) (all_fit before set g f (take (suc n) lates) (take (suc n) ps)) (all_fit before set g f (take n lates) (take n ps)) (late_fits before set g f late p)
-          (go lates ps n (le_of_suc-le-suc lt) (le_of_suc-le-suc few) is read)
-
-  -- where one does not fit, not all do
-  pub all_fit_part_false :
-      (lates : List ℕ) (ps : List Placement) (n late : ℕ) (p : Placement) → n < length ps → n < length lates → late ≡ get_or lates n 0 → p ≡ get_or ps n p →
-      late_fits before set g f late p ≡ false → all_fit before set g f lates ps ≡ false
-  all_fit_part_false lates [] n late p lt few is read fails = absurd (not-suc-le-zero lt)
-  all_fit_part_false [] (q ∷ ps) n late p lt few is read fails = absurd (not-suc-le-zero few)
-  all_fit_part_false (l ∷ lates) (q ∷ ps) zero late p lt few is read fails =
-      and_left (late_fits before set g f l q) (all_fit before set g f lates ps)
-      (ap (λ z. late_fits before set g f z q) (sym is) ∙ ap (late_fits before set g f late) (sym read) ∙ fails)
-  all_fit_part_false (l ∷ lates) (q ∷ ps) (suc n) late p lt few is read fails =
-      and_right (late_fits before set g f l q) (all_fit before set g f lates ps)
-      (all_fit_part_false lates ps n late p (le_of_suc-le-suc lt) (le_of_suc-le-suc few) is read fails)
+    no_job : (lates : List ℕ) → all_fit before set g f lates [] ≡ true
+    no_job [] = refl
+    no_job (late ∷ lates) = refl
 
 -- with the quiet figures as latenesses, in the loss set, it is the pair's test
 pub all_fit_is :
@@ -104,24 +40,9 @@ pair_is before ps lates g f figures =
     ap (λ l. all_fit before (loss_with l g f ps) g f l ps) figures
     ∙ all_fit_is before ps ps (loss_with (map (passive_late before ps) ps) g f ps) g f (loss_is before ps ps g f)
 
--- with the gathered set and the quiet figures as latenesses, the copies' test is the pair's
-pub pair_fits_is :
-    (before : Terms → Terms → Bool) (ps : List Placement) (lates : List ℕ) (set : List JobCopy) (g f n : ℕ) (p : Placement) →
-    lates ≡ map (passive_late before ps) ps → set ≡ loss_with lates g f ps → n < length ps → p ≡ get_or ps n p →
-    copies_fit before set (copy_of Standby p (cond (active p.status) p.terms.lateness (get_or lates n 0))) g f p ≡ pair_fits before ps g f p
-pair_fits_is before ps lates set g f n p figures gathered lt read =
-    let late : get_or lates n 0 ≡ passive_late before ps p = ap (λ l. get_or l n 0) figures ∙ map_at (passive_late before ps) ps n p lt read in
-    let whole : set ≡ loss before ps g f = gathered ∙ ap (λ l. loss_with l g f ps) figures ∙ loss_is before ps ps g f in
-    ap (λ s. copies_fit before s (copy_of Standby p (cond (active p.status) p.terms.lateness (get_or lates n 0))) g f p) whole
-    ∙ ap (λ l. copies_fit before (loss before ps g f) (copy_of Standby p (cond (active p.status) p.terms.lateness l)) g f p) late
-
 or_second : (a b : Bool) → a ≡ false → (a || b) ≡ true → b ≡ true
 or_second true b e t = absurd (both_ways true e refl)
 or_second false b e t = t
-
-or_from_second : (a b : Bool) → b ≡ true → (a || b) ≡ true
-or_from_second true b t = refl
-or_from_second false b t = t
 
 -- a premise as a test: it is not met, or what it asks holds
 unless : (a b : Bool) → (a ≡ true → b ≡ true) → (not a || b) ≡ true
@@ -182,28 +103,20 @@ module _ (before : Terms → Terms → Bool) (m : ℕ) (ps : List Placement) (ar
       (λ f f_in.
       ⊎_elim
       (λ same. ap (λ z. z || pair_passes before ps g f) (eq-eqb f g same))
-      (λ other. or_from_second (eqb f g) (pair_passes before ps g f) (each_all_of (pair_fits before ps g f) ps (pair_true g f f_in other pass)))
+      (λ other. or_right (eqb f g) (pair_passes before ps g f) (each_all_of (pair_fits before ps g f) ps (pair_true g f f_in other pass)))
       (cases_eq f g))))
 
   -- the sweep is the plan test
   pub sweep_is : sweep before m ps ≡ passes before m ps
   sweep_is = same_test (sweep before m ps) (passes before m ps) (λ swept. passes_true before m ps (sweep_means swept)) (λ passed. sweep_true (passes_means before m ps passed))
 
-  and_first_false : (a b : Bool) → a ≡ false → (a && b) ≡ false
-  and_first_false true b e = absurd (both_ways true e refl)
-  and_first_false false b e = refl
-
-  and_second_false : (a b : Bool) → b ≡ false → (a && b) ≡ false
-  and_second_false true b e = e
-  and_second_false false b e = refl
-
   -- a primary without a quiet figure fails the plan
   pub quiet_fails : quiet_passes before ps ≡ false → passes before m ps ≡ false
-  quiet_fails e = sym sweep_is ∙ and_first_false _ _ e
+  quiet_fails e = sym sweep_is ∙ and_left _ _ e
 
   -- so does a machine
   pub machine_fails : (g : ℕ) → g < m → machine_passes before m ps g ≡ false → passes before m ps ≡ false
-  machine_fails g g_in e = sym sweep_is ∙ and_second_false _ _ (all_below_part_false (machine_passes before m ps) m g g_in e)
+  machine_fails g g_in e = sym sweep_is ∙ and_right _ _ (all_below_part_false (machine_passes before m ps) m g g_in e)
 
   pub all_swept : quiet_passes before ps ≡ true → all_below m (machine_passes before m ps) ≡ true → passes before m ps ≡ true
   all_swept quiet machines = sym sweep_is ∙ and_from _ _ quiet machines
@@ -217,11 +130,3 @@ loss_found before ps lates set g f own copy r is gathered figures same =
     is
     ∙ ap (λ s. figure_of before s own) (gathered ∙ ap (λ l. loss_with l g f ps) figures ∙ loss_is before ps ps g f)
     ∙ ap (λ o. figure_of before (loss before ps g f) o) same
-
--- there are as many latenesses as placements
-pub lates_long : (before : Terms → Terms → Bool) (ps : List Placement) (lates : List ℕ) → lates ≡ map (passive_late before ps) ps → length lates ≡ length ps
-lates_long before ps lates figures = ap length figures ∙ map_length (passive_late before ps) ps
-
--- one machine more
-pub largest_more : (before : Terms → Terms → Bool) (ps : List Placement) (p : Placement) (n : ℕ) → largest_lost before ps p (n + 1) ≡ max (largest_lost before ps p n) (lost_shown before ps p n)
-largest_more before ps p n = ap (largest_lost before ps p) (add-one n)

@@ -1,10 +1,9 @@
-ghost use Rattle.std.specs.Prelude.{◌≡◌, ◌≤◌, length, IfOk};
-ghost use Rattle.rack.specs.Plan.{Arranged};
+ghost use Rattle.std.specs.Prelude.{◌≡◌, IfOk};
 ghost use Rattle.rack.specs.Test.{passes};
 ghost use Rattle.plantest.specs.Verdicts.{Means};
 
-use crate::listing::is_plan_of;
-use crate::sweep::{machine_fits, quiet_figures};
+use crate::known::Known;
+use crate::tested::Tested;
 use crate::verdict::Verdict;
 use crate::workspace::Workspace;
 use precedence::Precedence;
@@ -12,33 +11,22 @@ use rack::Placement;
 use roster::Roster;
 use std::alloc::{AllocError, Global};
 
-// Whether an arranged plan of at most 96 jobs passes.
-fn passes_on<R: Precedence>(
-    rule: &R,
-    machines: u8,
-    placements: &[Placement],
-    space: &mut Workspace,
-) -> bool
-    requires few { length placements.now ≤ 96 }
-    requires arranged { Arranged machines placements.now }
-    ensures { result ≡ passes (R.Precedence.before rule.now) machines placements.now }
-{
-    if !quiet_figures(rule, placements, &mut space.copies, &mut space.lates) {
-        return false;
-    }
-    for g in 0..machines {
-        if !machine_fits(
-            rule,
-            machines,
-            placements,
-            space.lates.as_slice(),
-            g,
-            &mut space.copies,
-        ) {
+impl<'a, R: Precedence> Tested<'a, R> {
+    // Whether the plan passes.
+    fn passes(&self, space: &mut Workspace) -> bool
+        ensures { result ≡ passes (R.Precedence.before self.now.rule.now) self.now.machines self.now.placements.now }
+    {
+        let Workspace { copies, lates } = space;
+        let Some(known) = Known::of_quiet(self, copies, lates) else {
             return false;
+        };
+        for g in 0..self.machines {
+            if !known.machine_fits(g, copies) {
+                return false;
+            }
         }
+        true
     }
-    true
 }
 
 // What the test says of a list of placements, and what that promises.
@@ -50,13 +38,11 @@ fn judge<R: Precedence>(
 ) -> Verdict
     ensures { Means (R.Precedence.before rule.now) machines placements.now result }
 {
-    if !is_plan_of(machines, placements) {
-        return Verdict::NoPlan;
+    match Tested::checked(rule, machines, placements) {
+        None => Verdict::NoPlan,
+        Some(plan) if plan.passes(space) => Verdict::Passing,
+        Some(_) => Verdict::Fails,
     }
-    if passes_on(rule, machines, placements, space) {
-        return Verdict::Passing;
-    }
-    Verdict::Fails
 }
 
 // The plan test over any list of placements, for any rule that keeps its laws.
@@ -76,5 +62,5 @@ pub fn check_plan<R: Precedence>(
 pub fn roster_passes<R: Precedence>(rule: &R, roster: &Roster, space: &mut Workspace) -> bool
     ensures { result ≡ passes (R.Precedence.before rule.now) roster.now.machines roster.now.placements.items }
 {
-    passes_on(rule, roster.machines(), roster.placements(), space)
+    Tested::of(rule, roster).passes(space)
 }

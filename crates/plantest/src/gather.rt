@@ -1,116 +1,87 @@
-ghost use Rattle.std.specs.Prelude.{◌≡◌, ◌+◌, ◌*◌, ◌≤◌, Bool, List, ◌++◌, length, vec_len, vec_capacity};
+ghost use Rattle.std.specs.Prelude.{◌≡◌, if◌then◌else◌};
 ghost use Rattle.std.specs.Option.{option_to_list};
-ghost use Rattle.figures.specs.declared.copies.Role.TheVariants.{Primary};
+ghost use Rattle.figures.specs.declared.copies.Role.TheVariants.{Primary, Standby};
+ghost use Rattle.rack.specs.Plan.{active};
 ghost use Rattle.rack.specs.Sets.{copy_of, quiet, quiet_part};
 ghost use Rattle.plantest.specs.Parts.{loss_with, passive_part};
 
+use crate::tested::Tested;
+use crate::workspace::Copies;
 use figures::{JobCopy, Role};
+use precedence::Precedence;
 use rack::{Placement, Status};
+
+// The job's copy in this role, so late.
+fn copy_of(role: Role, p: &Placement, lateness: u32) -> JobCopy
+    ensures { result ≡ copy_of role p.now lateness }
+{
+    JobCopy {
+        terms: p.terms,
+        role,
+        lateness,
+    }
+}
 
 // The job's primary copy.
 pub(crate) fn primary_copy(p: &Placement) -> JobCopy
     ensures { result ≡ copy_of Primary p.now p.now.terms.lateness }
 {
-    JobCopy {
-        terms: p.terms,
-        role: Role::Primary,
-        lateness: p.terms.lateness(),
-    }
+    copy_of(Role::Primary, p, p.terms.lateness())
+}
+
+// The job's standby copy, with its lateness where it is passive.
+pub(crate) fn standby_copy(p: &Placement, late: u32) -> JobCopy
+    ensures { result ≡ copy_of Standby p.now (if active p.now.status then p.now.terms.lateness else late) }
+{
+    let lateness = match p.status {
+        Status::Passive => late,
+        Status::Active => p.terms.lateness(),
+    };
+    copy_of(Role::Standby, p, lateness)
 }
 
 // The job's copy in the quiet set of machine g, if it has one there.
-pub(crate) fn quiet_copy(p: &Placement, g: u8) -> Option<JobCopy>
+fn quiet_copy(p: &Placement, g: u8) -> Option<JobCopy>
     ensures { option_to_list result ≡ quiet_part g p.now }
 {
-    if p.primary == g {
-        return Some(primary_copy(p));
-    }
     match p.status {
-        Status::Passive => None,
-        Status::Active => {
-            if p.standby == g {
-                Some(JobCopy {
-                    terms: p.terms,
-                    role: Role::Standby,
-                    lateness: p.terms.lateness(),
-                })
-            } else {
-                None
-            }
-        }
+        _ if p.primary == g => Some(primary_copy(p)),
+        Status::Active if p.standby == g => Some(copy_of(Role::Standby, p, p.terms.lateness())),
+        _ => None,
     }
 }
 
 // The job's passive standby, if it stands on g and its primary on f.
-pub(crate) fn passive_copy(p: &Placement, late: u32, g: u8, f: u8) -> Option<JobCopy>
+fn passive_copy(p: &Placement, late: u32, g: u8, f: u8) -> Option<JobCopy>
     ensures { option_to_list result ≡ passive_part late g f p.now }
 {
     match p.status {
-        Status::Passive => {
-            if p.standby == g && p.primary == f {
-                Some(JobCopy {
-                    terms: p.terms,
-                    role: Role::Standby,
-                    lateness: late,
-                })
-            } else {
-                None
-            }
+        Status::Passive if p.standby == g && p.primary == f => {
+            Some(copy_of(Role::Standby, p, late))
         }
-        Status::Active => None,
+        _ => None,
     }
 }
 
-// Adds a copy, if there is one, to copies with room for it.
-fn add(copies: &mut Vec<JobCopy>, copy: Option<JobCopy>)
-    requires { vec_len copies.old + 1 ≤ vec_capacity copies.old }
-    ensures items { copies.new.items ≡ copies.old.items ++ option_to_list copy }
-    ensures len { vec_len copies.new ≤ vec_len copies.old + 1 }
-    ensures capacity { vec_capacity copies.new ≡ vec_capacity copies.old }
-{
-    if let Some(c) = copy {
-        copies.push_reserved(c);
+impl<'a, R: Precedence> Tested<'a, R> {
+    // The quiet set of machine g.
+    pub(crate) fn gather_quiet(&self, g: u8, copies: &mut Copies)
+        ensures { copies.new.held.items ≡ quiet g self.now.placements.now }
+    {
+        copies.clear();
+        for p in self.placements {
+            copies.add(quiet_copy(p, g));
+        }
     }
-}
 
-// The quiet set of machine g.
-pub(crate) fn gather_quiet(placements: &[Placement], g: u8, copies: &mut Vec<JobCopy>)
-    requires { length placements.now ≤ vec_capacity copies.old }
-    ensures items { copies.new.items ≡ quiet g placements.now }
-    ensures capacity { vec_capacity copies.new ≡ vec_capacity copies.old }
-{
-    copies.clear();
-    for p in placements {
-        add(copies, quiet_copy(p, g));
-    }
-}
-
-// Adds what a placement has in the loss set of g when f stops: at most two copies.
-fn add_loss(copies: &mut Vec<JobCopy>, p: &Placement, late: u32, g: u8, f: u8)
-    requires { vec_len copies.old + 2 ≤ vec_capacity copies.old }
-    ensures items { copies.new.items ≡ copies.old.items ++ (quiet_part g p.now ++ passive_part late g f p.now) }
-    ensures len { vec_len copies.new ≤ vec_len copies.old + 2 }
-    ensures capacity { vec_capacity copies.new ≡ vec_capacity copies.old }
-{
-    add(copies, quiet_copy(p, g));
-    add(copies, passive_copy(p, late, g, f));
-}
-
-// The loss set of machine g when f stops, with each placement's passive lateness given.
-pub(crate) fn gather_loss(
-    placements: &[Placement],
-    lates: &[u32],
-    g: u8,
-    f: u8,
-    copies: &mut Vec<JobCopy>,
-)
-    requires room { 2 * length placements.now ≤ vec_capacity copies.old }
-    requires same { length lates.now ≡ length placements.now }
-    ensures items { copies.new.items ≡ loss_with lates.now g f placements.now }
-    ensures capacity { vec_capacity copies.new ≡ vec_capacity copies.old }
-{
-    copies.clear();
-    for i in 0..placements.len() {
-        add_loss(copies, &placements[i], lates[i], g, f);
+    // The loss set of machine g when f stops, with each placement's passive lateness given.
+    pub(crate) fn gather_loss(&self, lates: &[u32], g: u8, f: u8, copies: &mut Copies)
+        ensures { copies.new.held.items ≡ loss_with lates.now g f self.now.placements.now }
+    {
+        copies.clear();
+        for (p, late) in self.placements.iter().zip(lates) {
+            copies.add(quiet_copy(p, g));
+            copies.add(passive_copy(p, *late, g, f));
+        }
     }
 }

@@ -3,16 +3,20 @@
 #![tactic(auto)]
 
 mod answering;
+mod buffer;
 mod check;
 mod gather;
+mod known;
 mod listing;
 mod parts;
+mod quiet;
 mod sweep;
+mod tested;
 mod verdict;
 mod workspace;
 
 pub use answering::job_figures;
 pub use check::{check_plan, roster_passes};
-pub use parts::{pair_passes, quiet_figure};
+pub use parts::{pair_passes, passive_lateness, quiet_figure};
 pub use verdict::Verdict;
 pub use workspace::Workspace;

@@ -8,23 +8,19 @@ use roster::all_placed_in;
 fn has_number_in(placements: &[Placement], number: u32) -> bool
     ensures { result ≡ has_number number placements.now }
 {
-    for p in placements {
-        if p.terms.number() == number {
-            return true;
-        }
-    }
-    false
+    placements.iter().any(|p| p.terms.number() == number)
 }
 
 // Whether each job number stands once.
 fn each_once_in(placements: &[Placement]) -> bool
     ensures { result ≡ each_once placements.now }
 {
-    for i in 0..placements.len() {
-        let (_, rest) = placements.split_at(i + 1);
-        if has_number_in(rest, placements[i].terms.number()) {
+    let mut rest = placements;
+    while let Some((p, after)) = rest.split_first() {
+        if has_number_in(after, p.terms.number()) {
             return false;
         }
+        rest = after;
     }
     true
 }
@@ -33,11 +29,8 @@ fn each_once_in(placements: &[Placement]) -> bool
 pub(crate) fn is_plan_of(machines: u8, placements: &[Placement]) -> bool
     ensures { result ≡ is_plan machines placements.now }
 {
-    if machines < 2 || machines > 16 {
-        return false;
-    }
-    if placements.len() > 96 || !all_placed_in(machines, placements) {
-        return false;
-    }
-    each_once_in(placements)
+    (2..=16).contains(&machines)
+        && placements.len() <= 96
+        && all_placed_in(machines, placements)
+        && each_once_in(placements)
 }

@@ -1,9 +1,8 @@
 ghost use Rattle.std.specs.Prelude.{◌≡◌};
-ghost use Rattle.rack.specs.Sets.{quiet_figure};
+ghost use Rattle.rack.specs.Sets.{passive_late, quiet_figure};
 ghost use Rattle.plantest.specs.Sweep.{pair_with};
 
-use crate::answering::quiet_of;
-use crate::sweep::pair_fits_with;
+use crate::tested::Tested;
 use crate::workspace::Workspace;
 use precedence::Precedence;
 use rack::Placement;
@@ -18,7 +17,19 @@ pub fn quiet_figure<R: Precedence>(
 ) -> Option<u32>
     ensures { result ≡ quiet_figure (R.Precedence.before rule.now) roster.now.placements.items p.now }
 {
-    quiet_of(rule, roster.placements(), p, &mut space.copies)
+    Tested::of(rule, roster).quiet_of(p, &mut space.copies)
+}
+
+// How late the standby of a job is while it is passive, in the plan of a roster.
+pub fn passive_lateness<R: Precedence>(
+    rule: &R,
+    roster: &Roster,
+    p: &Placement,
+    space: &mut Workspace,
+) -> u32
+    ensures { result ≡ passive_late (R.Precedence.before rule.now) roster.now.placements.items p.now }
+{
+    Tested::of(rule, roster).late_of(p, &mut space.copies)
 }
 
 // Whether there is a lateness for each placement of a roster, and every copy in the loss set of g when f stops
@@ -33,9 +44,6 @@ pub fn pair_passes<R: Precedence>(
 ) -> bool
     ensures { result ≡ pair_with (R.Precedence.before rule.now) lates.now roster.now.placements.items g f }
 {
-    let placements = roster.placements();
-    if lates.len() != placements.len() {
-        return false;
-    }
-    pair_fits_with(rule, placements, lates, g, f, &mut space.copies)
+    let plan = Tested::of(rule, roster);
+    lates.len() == plan.placements.len() && plan.pair_fits_with(lates, g, f, &mut space.copies)
 }
