@@ -1,5 +1,5 @@
 ghost use Rattle.std.specs.Prelude.{◌≡◌, IfOk, refl};
-ghost use Rattle.precedence.specs.Rankings.{place, ranking_before};
+ghost use Rattle.precedence.specs.Rankings.{index, place, ranking_before};
 
 use crate::keyed::Keyed;
 use std::alloc::{AllocError, Global};
@@ -21,6 +21,14 @@ impl Ranking {
     }
 }
 
+// Where the number is first mentioned; the list's length where it is not.
+fn index_of(list: &[u32], number: u32) -> usize
+    ensures { result ≡ index list.now number }
+{
+    let mention = list.iter().position(|entry| *entry == number);
+    mention.unwrap_or(list.len())
+}
+
 impl Keyed for Ranking {
     const CODE: u8 = 3;
 
@@ -32,11 +40,10 @@ impl Keyed for Ranking {
 
     ghost by_key = { λ s a b. refl };
 
-    // Where the job is first mentioned among the entries that count; how many of these there are where it is not.
+    // By first mention among the entries that count: the first 32.
+    #[tactic(auto, using(crate::proofs::Mentions::front))]
     fn key(&self, terms: &Terms) -> u64 {
-        let number = terms.number();
         let counted = &self.list[..self.list.len().min(32)];
-        let place = counted.iter().position(|entry| *entry == number);
-        place.unwrap_or(counted.len()) as u64
+        index_of(counted, terms.number()) as u64
     }
 }
