@@ -31,6 +31,7 @@ impl JobCopy {
     }
 
     // How many releases can fall into a window of x ticks.
+    #[tactic(auto, using(crate::proofs::Demands::div_ceil_is))]
     fn releases(&self, x: u64) -> u64
         requires { x ≤ 1000000 }
         ensures { result ≡ ceil (x + self.now.lateness) self.now.terms.period }

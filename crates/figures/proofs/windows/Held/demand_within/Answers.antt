@@ -1,4 +1,4 @@
-use Rattle.std.proofs.Common.{◌+◌, arith}
+use Rattle.std.proofs.Common.{arith}
 use Rattle.figures.proofs.Demands.{held_off_more, held_off_part}
 use Rattle.figures.proofs.windows.Held.demand_within.Goals as goal
 
