@@ -1,3 +1,6 @@
+ghost use Rattle.std.specs.Prelude.{◌≡◌, ◌+◌, ◌≤◌};
+ghost use Rattle.figures.specs.Demand.{ceil, charge, work_in};
+
 use terms::Terms;
 
 // Which copy of a job: its primary, or its standby.
@@ -13,4 +16,35 @@ pub struct JobCopy {
     pub terms: Terms,
     pub role: Role,
     pub lateness: u32,
+}
+
+impl JobCopy {
+    // What one release is charged: the copy's run.
+    pub(crate) fn charge(&self) -> u32
+        ensures value { result ≡ charge self.now }
+        ensures bounds { (1 ≤ result) × (result ≤ 1000000) }
+    {
+        match self.role {
+            Role::Primary => self.terms.run(),
+            Role::Standby => self.terms.standby(),
+        }
+    }
+
+    // How many releases can fall into a window of x ticks.
+    #[tactic(auto, using(crate::proofs::Demands::div_ceil_is))]
+    fn releases(&self, x: u64) -> u64
+        requires { x ≤ 1000000 }
+        ensures { result ≡ ceil (x + self.now.lateness) self.now.terms.period }
+    {
+        (x + u64::from(self.lateness)).div_ceil(u64::from(self.terms.period()))
+    }
+
+    // The most work of the copy that can fall into a window of x ticks.
+    pub(crate) fn work_in(&self, x: u64) -> u64
+        requires { x ≤ 1000000 }
+        ensures value { result ≡ work_in self.now x }
+        ensures small { result ≤ 5000000000000000 }
+    {
+        u64::from(self.charge()) * self.releases(x)
+    }
 }

@@ -1,120 +1,71 @@
 ghost use Rattle.std.specs.Prelude.{◌≡◌, ◌+◌, ◌<◌, ◌≤◌, MatchOption};
-ghost use Rattle.figures.specs.Demand.{ceil, charge, demand, held_off, work_in};
-ghost use Rattle.figures.specs.Figure.{Figured, figure_of, with_lateness};
+ghost use Rattle.figures.specs.Demand.{demand, held_off};
+ghost use Rattle.figures.specs.Figure.{Figured, figure_of};
 ghost use Rattle.figures.specs.Lighter.{NoLonger};
 ghost use Rattle.figures.specs.Window.{Windowed};
 
-use crate::copies::{JobCopy, Role};
+use crate::copies::JobCopy;
 use precedence::Precedence;
 
-// What one release of the copy is charged: its run.
-fn charge_of(copy: &JobCopy) -> u32
-    ensures value { result ≡ charge copy.now }
-    ensures bounds { (1 ≤ result) × (result ≤ 1000000) }
-{
-    match copy.role {
-        Role::Primary => copy.terms.run(),
-        Role::Standby => copy.terms.standby(),
-    }
+// A copy beside a set, under a rule.
+#[derive(Drop)]
+struct Held<'a, R> {
+    rule: &'a R,
+    set: &'a [JobCopy],
+    own: &'a JobCopy,
 }
 
-// How many releases can fall into a window of x ticks.
-fn releases(x: u64, lateness: u32, period: u32) -> u64
-    requires { (x ≤ 1000000) × (1 ≤ period) }
-    ensures { result ≡ ceil (x + lateness) period }
-{
-    let period = u64::from(period);
-    (x + u64::from(lateness) + (period - 1)) / period
-}
-
-// The most work of the copy that can fall into a window of x ticks.
-fn share(copy: &JobCopy, x: u64) -> u64
-    requires { x ≤ 1000000 }
-    ensures value { result ≡ work_in copy.now x }
-    ensures small { result ≤ 5000000000000000 }
-{
-    u64::from(charge_of(copy)) * releases(x, copy.lateness, copy.terms.period())
-}
-
-// What the copy takes of a window of `own`: nothing, unless it goes before.
-fn share_before<R: Precedence>(rule: &R, copy: &JobCopy, own: &JobCopy, x: u64) -> u64
-    requires { x ≤ 1000000 }
-    ensures value { result ≡ held_off (R.Precedence.before rule.now) copy.now own.now x }
-    ensures small { result ≤ 5000000000000000 }
-{
-    if rule.goes_before(&copy.terms, &own.terms) {
-        share(copy, x)
-    } else {
-        0
-    }
-}
-
-// What is asked of a window of x ticks, unless that is more than the limit.
-// The sum stops past the limit, so that it stays small however many copies there are.
-fn demand_within<R: Precedence>(
-    rule: &R,
-    set: &[JobCopy],
-    own: &JobCopy,
-    x: u64,
-    limit: u64,
-) -> Option<u64>
-    requires { (x ≤ 1000000) × (limit ≤ 1000000) }
-    ensures { MatchOption result (limit < demand (R.Precedence.before rule.now) set.now own.now x) (λ w. (w ≡ demand (R.Precedence.before rule.now) set.now own.now x) × (w ≤ limit)) }
-{
-    let mut total = u64::from(charge_of(own));
-    if total > limit {
-        return None;
-    }
-    for copy in set {
-        total += share_before(rule, copy, own, x);
-        if total > limit {
-            return None;
+impl<'a, R: Precedence> Held<'a, R> {
+    // By how much a copy of the set holds it off in a window of x ticks: not at all, unless it goes before.
+    fn held_off_by(&self, copy: &JobCopy, x: u64) -> u64
+        requires { x ≤ 1000000 }
+        ensures value { result ≡ held_off (R.Precedence.before self.now.rule.now) copy.now self.now.own.now x }
+        ensures small { result ≤ 5000000000000000 }
+    {
+        if self.rule.goes_before(&copy.terms, &self.own.terms) {
+            copy.work_in(x)
+        } else {
+            0
         }
     }
-    Some(total)
-}
 
-// The least x with x = demand in x, if with the copy's lateness it ends within the deadline.
-fn search<R: Precedence>(rule: &R, set: &[JobCopy], own: &JobCopy) -> Option<u32>
-    ensures { Windowed (R.Precedence.before rule.now) set.now own.now result }
-{
-    if own.lateness > own.terms.deadline() {
-        return None;
-    }
-    let limit = u64::from(own.terms.deadline() - own.lateness);
-    let mut x = u64::from(charge_of(own));
-    let found = loop {
-        if x > limit {
-            break None;
-        }
-        match demand_within(rule, set, own, x, limit) {
-            None => break None,
-            Some(next) => {
-                if next == x {
-                    break Some(x as u32);
-                }
-                x = next;
+    // What is asked of a window of x ticks, unless that is more than the limit.
+    // The sum stops past the limit, so that it stays small however many copies there are.
+    fn demand_within(&self, x: u64, limit: u64) -> Option<u64>
+        requires { (x ≤ 1000000) × (limit ≤ 1000000) }
+        ensures { MatchOption result (limit < demand (R.Precedence.before self.now.rule.now) self.now.set.now self.now.own.now x) (λ w. (w ≡ demand (R.Precedence.before self.now.rule.now) self.now.set.now self.now.own.now x) × (w ≤ limit)) }
+    {
+        let mut total = u64::from(self.own.charge());
+        for copy in self.set {
+            if total > limit {
+                return None;
             }
+            total += self.held_off_by(copy, x);
         }
-    };
-    found
-}
+        (total <= limit).then_some(total)
+    }
 
-// The search's answer, and the laws of the figure that it gives.
-fn searched<R: Precedence>(rule: &R, set: &[JobCopy], own: &JobCopy) -> Option<u32>
-    ensures means { Windowed (R.Precedence.before rule.now) set.now own.now result }
-    ensures value { with_lateness own.now result ≡ figure_of (R.Precedence.before rule.now) set.now own.now }
-    ensures least { Figured (R.Precedence.before rule.now) set.now own.now (figure_of (R.Precedence.before rule.now) set.now own.now) }
-    ensures lighter { NoLonger (R.Precedence.before rule.now) set.now own.now (figure_of (R.Precedence.before rule.now) set.now own.now) }
-{
-    search(rule, set, own)
+    // The least x with x = demand in x, if with the copy's lateness it ends within the deadline.
+    fn window(&self) -> Option<u32>
+        ensures { Windowed (R.Precedence.before self.now.rule.now) self.now.set.now self.now.own.now result }
+    {
+        let limit = u64::from(self.own.terms.deadline().checked_sub(self.own.lateness)?);
+        let mut x = u64::from(self.own.charge());
+        loop {
+            let next = self.demand_within(x, limit)?;
+            if next == x {
+                return Some(x as u32);
+            }
+            x = next;
+        }
+    }
 }
 
 // The copy's window in the set, if with the copy's lateness it ends within the deadline.
 pub fn window<R: Precedence>(rule: &R, set: &[JobCopy], own: &JobCopy) -> Option<u32>
     ensures { Windowed (R.Precedence.before rule.now) set.now own.now result }
 {
-    searched(rule, set, own)
+    Held { rule, set, own }.window()
 }
 
 // The copy's figure in the set: its window and its lateness, if that is within the deadline.
@@ -124,8 +75,6 @@ pub fn figure<R: Precedence>(rule: &R, set: &[JobCopy], own: &JobCopy) -> Option
     ensures least { Figured (R.Precedence.before rule.now) set.now own.now (figure_of (R.Precedence.before rule.now) set.now own.now) }
     ensures lighter { NoLonger (R.Precedence.before rule.now) set.now own.now (figure_of (R.Precedence.before rule.now) set.now own.now) }
 {
-    match searched(rule, set, own) {
-        None => None,
-        Some(x) => Some(x + own.lateness),
-    }
+    let x = window(rule, set, own)?;
+    Some(x + own.lateness)
 }

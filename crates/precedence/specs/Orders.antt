@@ -1,6 +1,6 @@
 -- An order by a key of the terms keeps the laws.
 use Rattle.std.specs.Prelude.{◌≡◌, ℕ, Bool, true, false, not, ◌⊎◌, ◌≢◌}
-use Rattle.std.proofs.Common.{inl, inr, ⊎_elim, ap, ◌∙◌, arith}
+use Rattle.std.proofs.Common.{inl, inr, ⊎_elim, sym, ap, ◌∙◌, arith}
 use Rattle.std.proofs.lemmas.Bool.{cases_Bool}
 use Rattle.std.proofs.lemmas.Bool.Decides.{nat_tests}
 use Rattle.terms.specs.declared.terms.Terms.{Terms}
@@ -21,6 +21,14 @@ key_laws key = record {
   irreflexive = λ a. key_irreflexive (key a) a.number;
   exactly_one = λ a b. key_exactly_one (key a) a.number (key b) b.number;
   transitive = λ a b c. key_transitive (key a) a.number (key b) b.number (key c) c.number;
+}
+
+-- and so does a relation that is an order by a key
+pub laws_by_key : (before : Terms → Terms → Bool) (key : Terms → ℕ) → ((a b : Terms) → before a b ≡ key_before (key a) a.number (key b) b.number) → Laws before
+laws_by_key before key is = record {
+  irreflexive = λ a. is a a ∙ (key_laws key).irreflexive a;
+  exactly_one = λ a b ne. is a b ∙ ((key_laws key).exactly_one a b ne ∙ ap not (sym (is b a)));
+  transitive = λ a b c h i. is a c ∙ (key_laws key).transitive a b c (sym (is a b) ∙ h) (sym (is b c) ∙ i);
 }
 
 -- of two jobs with different numbers one goes before the other

@@ -1,27 +1,25 @@
+ghost use Rattle.std.specs.Prelude.{refl};
 ghost use Rattle.precedence.specs.Deadlines.{deadline_before};
-ghost use Rattle.precedence.specs.Orders.{key_laws};
 
-use crate::precedence::Precedence;
+use crate::keyed::Keyed;
 use terms::Terms;
 
 // The smaller deadline goes first, then the smaller number.
-#[derive(Clone, Copy)]
+#[derive(Clone, Copy, PartialEq, Eq, Debug)]
 pub struct Deadline;
 
-impl Precedence for Deadline {
+impl Keyed for Deadline {
     const CODE: u8 = 1;
 
-    ghost code = { 1 };
+    ghost CODE = { 1 };
+
+    ghost key = { λ s t. t.deadline };
 
     ghost before = { deadline_before };
 
-    ghost orders = { λ s. key_laws (λ a. a.deadline) };
+    ghost by_key = { λ s a b. refl };
 
-    fn its_code() -> u8 {
-        Self::CODE
-    }
-
-    fn goes_before(&self, a: &Terms, b: &Terms) -> bool {
-        a.deadline() < b.deadline() || (a.deadline() == b.deadline() && a.number() < b.number())
+    fn key(&self, terms: &Terms) -> u64 {
+        u64::from(terms.deadline())
     }
 }

@@ -1,27 +1,25 @@
+ghost use Rattle.std.specs.Prelude.{refl};
 ghost use Rattle.precedence.specs.Periods.{period_before};
-ghost use Rattle.precedence.specs.Orders.{key_laws};
 
-use crate::precedence::Precedence;
+use crate::keyed::Keyed;
 use terms::Terms;
 
 // The smaller period goes first, then the smaller number.
-#[derive(Clone, Copy)]
+#[derive(Clone, Copy, PartialEq, Eq, Debug)]
 pub struct Period;
 
-impl Precedence for Period {
+impl Keyed for Period {
     const CODE: u8 = 2;
 
-    ghost code = { 2 };
+    ghost CODE = { 2 };
+
+    ghost key = { λ s t. t.period };
 
     ghost before = { period_before };
 
-    ghost orders = { λ s. key_laws (λ a. a.period) };
+    ghost by_key = { λ s a b. refl };
 
-    fn its_code() -> u8 {
-        Self::CODE
-    }
-
-    fn goes_before(&self, a: &Terms, b: &Terms) -> bool {
-        a.period() < b.period() || (a.period() == b.period() && a.number() < b.number())
+    fn key(&self, terms: &Terms) -> u64 {
+        u64::from(terms.period())
     }
 }

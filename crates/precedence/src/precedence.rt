@@ -10,17 +10,25 @@ pub trait Precedence {
     // The rule's fixed code, which stands in the head of a plan file.
     const CODE: u8;
 
-    // `CODE` as contracts name it.
+    // `CODE` as clauses name a constant.
+    ghost CODE: { ℕ };
+
+    // The code as the contracts of callers name it.
     ghost code: { ℕ };
 
     // Whether the job of the first terms goes before that of the second.
     ghost before: { Self → Terms → Terms → Bool };
 
-    fn its_code() -> u8
-        ensures { result ≡ code };
-
     fn goes_before(&self, a: &Terms, b: &Terms) -> bool
         ensures { result ≡ before self.now a.now b.now };
+
+    final fn its_code() -> u8
+        ensures { result ≡ code }
+    {
+        Self::CODE
+    }
+
+    ghost coded: { CODE ≡ code };
 
     ghost orders: { (s : Self) → Laws (before s) };
 }

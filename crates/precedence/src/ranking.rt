@@ -1,8 +1,7 @@
-ghost use Rattle.std.specs.Prelude.{◌≡◌, take, IfOk};
+ghost use Rattle.std.specs.Prelude.{◌≡◌, IfOk, refl};
 ghost use Rattle.precedence.specs.Rankings.{index, place, ranking_before};
-ghost use Rattle.precedence.specs.Orders.{key_laws};
 
-use crate::precedence::Precedence;
+use crate::keyed::Keyed;
 use std::alloc::{AllocError, Global};
 use terms::Terms;
 
@@ -22,51 +21,29 @@ impl Ranking {
     }
 }
 
-// The entries that count: the first 32.
-fn counted(list: &[u32]) -> &[u32]
-    ensures { result.now ≡ take 32 list.now }
-{
-    if list.len() > 32 {
-        let (front, _) = list.split_at(32);
-        return front;
-    }
-    list
-}
-
 // Where the number is first mentioned; the list's length where it is not.
 fn index_of(list: &[u32], number: u32) -> usize
     ensures { result ≡ index list.now number }
 {
-    for (i, entry) in list.iter().enumerate() {
-        if *entry == number {
-            return i;
-        }
-    }
-    list.len()
+    let mention = list.iter().position(|entry| *entry == number);
+    mention.unwrap_or(list.len())
 }
 
-fn place_of(list: &[u32], number: u32) -> usize
-    ensures { result ≡ place list.now number }
-{
-    index_of(counted(list), number)
-}
-
-impl Precedence for Ranking {
+impl Keyed for Ranking {
     const CODE: u8 = 3;
 
-    ghost code = { 3 };
+    ghost CODE = { 3 };
+
+    ghost key = { λ s t. place s.list.items t.number };
 
     ghost before = { ranking_before };
 
-    ghost orders = { λ s. key_laws (λ a. place s.list.items a.number) };
+    ghost by_key = { λ s a b. refl };
 
-    fn its_code() -> u8 {
-        Self::CODE
-    }
-
-    fn goes_before(&self, a: &Terms, b: &Terms) -> bool {
-        let p = place_of(self.list.as_slice(), a.number());
-        let q = place_of(self.list.as_slice(), b.number());
-        p < q || (p == q && a.number() < b.number())
+    // By first mention among the entries that count: the first 32.
+    #[tactic(auto, using(crate::proofs::Mentions::front))]
+    fn key(&self, terms: &Terms) -> u64 {
+        let counted = &self.list[..self.list.len().min(32)];
+        index_of(counted, terms.number()) as u64
     }
 }

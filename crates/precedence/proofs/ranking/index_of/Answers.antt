@@ -1,9 +1,15 @@
-use Rattle.std.proofs.Common.{sym, arith}
-use Rattle.precedence.proofs.Mentions.{index_at, index_none}
+use Rattle.std.specs.Prelude.{◌≡◌, position, ◌==◌}
+use Rattle.std.proofs.Common.{rules, tests}
+use Rattle.std.proofs.lemmas.Iterator.{YieldsList-from_slice}
+use Rattle.std.proofs.lemmas.Iterator.Search.{position_from_yields_List}
+use Rattle.precedence.proofs.Mentions.{position_or_length}
 use Rattle.precedence.proofs.ranking.index_of.Goals as goal
 
-pub returns-then-entry-number : goal.returns-then-entry-number
-returns-then-entry-number c = sym (index_at c.args.list.now c.args.number c.loop-i.i c.loop-i.invariant c.loop-i-test.true c.if-entry-number.true)
-
 pub returns : goal.returns
-returns c = sym (index_none c.args.list.now c.args.number (λ k h. c.loop-i.invariant k (omega arith)))
+returns c =
+    let list = c.args.list.now in
+    let n = c.args.number in
+    let found : c.position-mention.result ≡ position (λ x. x == n) list =
+    position_from_yields_List (λ x. x == n) _ _ c.position-mention.result c.position-mention.ensures.ran (YieldsList-from_slice list (cc)) (λ x b q k. search (rules, tests)) in
+    let first = position_or_length list n in
+    cc
