@@ -36,6 +36,12 @@ in_and_out p (q ∷ qs) none =
 pub addable_new : (m : ℕ) (ps : List Placement) (p : Placement) → addable m ps p ≡ true → is_some (find (number p) ps) ≡ false
 addable_new m ps p e = not-true _ (and_parts _ _ e).0
 
+-- so it is put in and taken out again
+pub taken_back :
+    (m : ℕ) (p : Placement) (ps put back : List Placement) → addable m ps p ≡ true → put ≡ with_job p ps → back ≡ without (number p) put →
+    back ≡ ps
+taken_back m p ps put back may is out = out ∙ ap (without (number p)) is ∙ in_and_out p ps (addable_new m ps p may)
+
 -- so no other job has its number
 pub new_number : (m : ℕ) (ps : List Placement) (p : Placement) → addable m ps p ≡ true → (q : Placement) → In q ps → number q ≡ number p → ⊥
 new_number m ps p may = find_none (number p) ps (is_none (find (number p) ps) (addable_new m ps p may))
