@@ -59,9 +59,3 @@ tried_fails before m m' ps qs p count put fails =
     (λ may. ap (λ b. b && passes before m (with_job p ps)) may ∙ fails')
     (λ may_not. ap (λ b. b && passes before m (with_job p ps)) may_not)
     (cases_Bool (addable m ps p))
-
--- what was tried passes
-pub tried_passes : (before : Terms → Terms → Bool) (m m' : ℕ) (ps qs : List Placement) (p : Placement) → addable m ps p ≡ true → m' ≡ m → qs ≡ with_job p ps → passes before m' qs ≡ true → tried before m ps p ≡ true
-tried_passes before m m' ps qs p may count put pass =
-    ap (λ b. b && passes before m (with_job p ps)) may
-    ∙ ap (λ k. passes before k (with_job p ps)) (sym count) ∙ ap (passes before m') (sym put) ∙ pass

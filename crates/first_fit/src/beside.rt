@@ -1,10 +1,11 @@
-ghost use Rattle.std.specs.Prelude.{◌≡◌, ◌&&◌, IfSome, is_some, map, if◌then◌else◌, Some};
-ghost use Rattle.rack.specs.Sets.{passive_late, quiet_figure};
+ghost use Rattle.std.specs.Prelude.{◌≡◌, ◌&&◌, IfSome, is_some, map};
+ghost use Rattle.rack.specs.Sets.{passive_late};
 ghost use Rattle.rack.specs.Test.{all_below};
 ghost use Rattle.plantest.specs.Sweep.{pair_passes, quiet_passes};
 ghost use Rattle.first_fit.specs.Beside.{Known, any_of, asked, asks, changed, machine_beside, pair_beside, touched_passes};
 
 use crate::latenesses::Figures;
+use crate::search::Search;
 use plantest::{Workspace, pair_passes, quiet_figure};
 use precedence::Precedence;
 use rack::{Placement, Status};
@@ -56,44 +57,6 @@ fn is_asked(placements: &[Placement], x: &Placement, g: u8, f: u8) -> bool
         return false;
     }
     any_asks(placements, here, there, g, f)
-}
-
-// The quiet figure of a job: what is known of it, unless its primary's machine has changed.
-fn figure_beside<R: Precedence>(
-    rule: &R,
-    roster: &Roster,
-    space: &mut Workspace,
-    x: &Placement,
-    p: &Placement,
-    known: u32,
-) -> Option<u32>
-    ensures { result ≡ (if changed x.now p.now.primary then quiet_figure (R.Precedence.before rule.now) roster.now.placements.items p.now else Some known) }
-{
-    if is_changed(x, p.primary) {
-        return quiet_figure(rule, roster, p, space);
-    }
-    Some(known)
-}
-
-// If every primary has its quiet figure, these: the latenesses of the passive standbys.
-fn quiet_beside<'a, R: Precedence>(
-    rule: &R,
-    roster: &Roster,
-    space: &mut Workspace,
-    known: &[u32],
-    lates: &'a mut Figures,
-    x: &Placement,
-) -> Option<&'a [u32]>
-    requires { Known (R.Precedence.before rule.now) x.now roster.now.placements.items known.now }
-    ensures test { is_some result ≡ quiet_passes (R.Precedence.before rule.now) roster.now.placements.items }
-    ensures figures { IfSome result (λ l. l.now ≡ map (passive_late (R.Precedence.before rule.now) roster.now.placements.items) roster.now.placements.items) }
-{
-    lates.items.clear();
-    for (p, known) in roster.placements().iter().zip(known) {
-        let late = figure_beside(rule, roster, space, x, p, *known)?;
-        lates.items.push_reserved(late);
-    }
-    Some(lates.items.as_slice())
 }
 
 // The plan of a roster with a further job x in it, and how late its passive standbys are.
@@ -150,26 +113,52 @@ impl<R: Precedence> Beside<'_, R> {
     }
 }
 
-// Whether all that the job can change in the plan that has it passes.
-pub(crate) fn passes_beside<R: Precedence>(
-    rule: &R,
-    roster: &Roster,
-    space: &mut Workspace,
-    known: &[u32],
-    lates: &mut Figures,
-    x: &Placement,
-) -> bool
-    requires { Known (R.Precedence.before rule.now) x.now roster.now.placements.items known.now }
-    ensures { result ≡ touched_passes (R.Precedence.before rule.now) roster.now.machines x.now roster.now.placements.items }
-{
-    let Some(lates) = quiet_beside(rule, roster, space, known, lates, x) else {
-        return false;
-    };
-    let beside = Beside {
-        rule,
-        roster,
-        lates,
-        x,
-    };
-    beside.pairs_pass(space)
+impl<R: Precedence> Search<'_, R> {
+    // If every primary has its quiet figure beside the job, these: the latenesses of the passive standbys. What is
+    // known of a primary stands unless its machine has changed.
+    fn quiet_beside<'a>(
+        &self,
+        roster: &Roster,
+        space: &mut Workspace,
+        lates: &'a mut Figures,
+        x: &Placement,
+    ) -> Option<&'a [u32]>
+        requires { Known (R.Precedence.before self.now.rule.now) x.now roster.now.placements.items self.now.known.now }
+        ensures test { is_some result ≡ quiet_passes (R.Precedence.before self.now.rule.now) roster.now.placements.items }
+        ensures figures { IfSome result (λ l. l.now ≡ map (passive_late (R.Precedence.before self.now.rule.now) roster.now.placements.items) roster.now.placements.items) }
+    {
+        lates.items.clear();
+        for (p, known) in roster.placements().iter().zip(self.known) {
+            let late = if is_changed(x, p.primary) {
+                quiet_figure(self.rule, roster, p, space)?
+            } else {
+                *known
+            };
+            lates.items.push_reserved(late);
+        }
+        Some(lates.items.as_slice())
+    }
+
+    // Whether all that the job can change in the plan that has it passes.
+    pub(crate) fn passes_beside(
+        &self,
+        roster: &Roster,
+        space: &mut Workspace,
+        lates: &mut Figures,
+        x: &Placement,
+    ) -> bool
+        requires { Known (R.Precedence.before self.now.rule.now) x.now roster.now.placements.items self.now.known.now }
+        ensures { result ≡ touched_passes (R.Precedence.before self.now.rule.now) roster.now.machines x.now roster.now.placements.items }
+    {
+        let Some(lates) = self.quiet_beside(roster, space, lates, x) else {
+            return false;
+        };
+        let beside = Beside {
+            rule: self.rule,
+            roster,
+            lates,
+            x,
+        };
+        beside.pairs_pass(space)
+    }
 }

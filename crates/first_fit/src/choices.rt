@@ -1,10 +1,9 @@
-ghost use Rattle.std.specs.Prelude.{◌≡◌, not, ◌&&◌, if◌then◌else◌, None, ◌==◌};
+ghost use Rattle.std.specs.Prelude.{◌≡◌, if◌then◌else◌, None};
 ghost use Rattle.first_fit.specs.Beside.{Ready};
 ghost use Rattle.first_fit.specs.Choices.{first_standby, first_with};
 ghost use Rattle.first_fit.specs.Trying.{choice_jobs, jobs_at, tried, tried_at, tried_first};
 ghost use Rattle.roster.specs.Changes.{with_job};
 
-use crate::beside::passes_beside;
 use crate::knowing::know;
 use crate::latenesses::{Figures, Latenesses};
 use crate::search::Search;
@@ -34,30 +33,11 @@ impl<R: Precedence> Search<'_, R> {
         if !roster.insert(p) {
             return false;
         }
-        if passes_beside(self.rule, roster, space, self.known, lates, &p) {
+        if self.passes_beside(roster, space, lates, &p) {
             return true;
         }
         take_back(roster, &p);
         false
-    }
-
-    // The same where the two machines differ; where they do not, nothing is tried.
-    fn try_apart(
-        &self,
-        roster: &mut Roster,
-        space: &mut Workspace,
-        lates: &mut Figures,
-        p: Placement,
-    ) -> bool
-        requires { Ready (R.Precedence.before self.now.rule.now) roster.old.machines roster.old.placements.items p.terms self.now.known.now }
-        ensures test { result ≡ (not (p.standby == p.primary) && tried (R.Precedence.before self.now.rule.now) roster.old.machines roster.old.placements.items p) }
-        ensures jobs { roster.new.placements.items ≡ (if result then with_job p roster.old.placements.items else roster.old.placements.items) }
-        ensures machines { roster.new.machines ≡ roster.old.machines }
-    {
-        if p.standby == p.primary {
-            return false;
-        }
-        self.try_beside(roster, space, lates, p)
     }
 
     // The first standby in turn with which the job passes on this primary and with this status.
@@ -81,34 +61,14 @@ impl<R: Precedence> Search<'_, R> {
                 standby: *standby,
                 status,
             };
-            if self.try_apart(roster, space, lates, p) {
+            if *standby != primary && self.try_beside(roster, space, lates, p) {
                 return Some(*standby);
             }
         }
         None
     }
 
-    // The first choice with this primary: passive with each standby in turn, then active.
-    fn try_statuses(
-        &self,
-        roster: &mut Roster,
-        space: &mut Workspace,
-        lates: &mut Figures,
-        primary: u8,
-    ) -> Option<(u8, u8, Status)>
-        requires { Ready (R.Precedence.before self.now.rule.now) roster.old.machines roster.old.placements.items self.now.terms self.now.known.now }
-        ensures chosen { result ≡ first_with (tried_at (R.Precedence.before self.now.rule.now) roster.old.machines roster.old.placements.items self.now.terms primary) primary self.now.turns.now None }
-        ensures jobs { roster.new.placements.items ≡ choice_jobs self.now.terms roster.old.placements.items result }
-        ensures machines { roster.new.machines ≡ roster.old.machines }
-    {
-        if let Some(standby) = self.try_standbys(roster, space, lates, primary, Status::Passive) {
-            return Some((primary, standby, Status::Passive));
-        }
-        let standby = self.try_standbys(roster, space, lates, primary, Status::Active)?;
-        Some((primary, standby, Status::Active))
-    }
-
-    // The same, but that nothing is tried where the primary finds no room.
+    // The first choice with this primary, if it finds room there: passive with each standby in turn, then active.
     fn try_primary(
         &self,
         roster: &mut Roster,
@@ -124,7 +84,11 @@ impl<R: Precedence> Search<'_, R> {
         if !self.has_room(roster, space, primary) {
             return None;
         }
-        self.try_statuses(roster, space, lates, primary)
+        if let Some(standby) = self.try_standbys(roster, space, lates, primary, Status::Passive) {
+            return Some((primary, standby, Status::Passive));
+        }
+        let standby = self.try_standbys(roster, space, lates, primary, Status::Active)?;
+        Some((primary, standby, Status::Active))
     }
 
     // The first choice of all: each primary in turn.

@@ -11,20 +11,20 @@ use precedence::Precedence;
 use rack::{Placement, Status};
 use roster::Roster;
 
-// Whether each job whose primary stands on g has its quiet figure.
-fn all_quiet_on<R: Precedence>(rule: &R, roster: &Roster, space: &mut Workspace, g: u8) -> bool
-    ensures { result ≡ all_of (quiet_on (R.Precedence.before rule.now) roster.now.placements.items g) roster.now.placements.items }
-{
-    // No `all`: its closure would change `space`, and no chain proof goes through such a closure.
-    for p in roster.placements() {
-        if p.primary == g && quiet_figure(rule, roster, p, space).is_none() {
-            return false;
-        }
-    }
-    true
-}
-
 impl<R: Precedence> Search<'_, R> {
+    // Whether each job whose primary stands on g has its quiet figure.
+    fn all_quiet_on(&self, roster: &Roster, space: &mut Workspace, g: u8) -> bool
+        ensures { result ≡ all_of (quiet_on (R.Precedence.before self.now.rule.now) roster.now.placements.items g) roster.now.placements.items }
+    {
+        // No `all`: its closure would change `space`, and no chain proof goes through such a closure.
+        for p in roster.placements() {
+            if p.primary == g && quiet_figure(self.rule, roster, p, space).is_none() {
+                return false;
+            }
+        }
+        true
+    }
+
     // Whether the job's primary may find room on this machine: where it may not, no standby and no status passes.
     // A machine's quiet figures do not go by the standby of a primary on it, so that one choice tells of all.
     pub(crate) fn has_room(&self, roster: &mut Roster, space: &mut Workspace, primary: u8) -> bool
@@ -42,7 +42,7 @@ impl<R: Precedence> Search<'_, R> {
         if !roster.insert(p) {
             return true;
         }
-        let quiet = all_quiet_on(self.rule, roster, space, primary);
+        let quiet = self.all_quiet_on(roster, space, primary);
         take_back(roster, &p);
         quiet
     }
