@@ -8,24 +8,6 @@ use Rattle.rack.specs.Plan.{In}
 use Rattle.first_fit.specs.Choices.{Choice, first_standby, chosen_or, first_with, first_choice}
 
 module _ (test : ℕ → Bool) (p : ℕ) where
-  -- the standby at a place is taken
-  pub standby_here :
-      (bs : List ℕ) (i : ℕ) → i < length bs → (not (eqb (get_or bs i 0) p) && test (get_or bs i 0)) ≡ true →
-      first_standby test p (drop i bs) ≡ Some (get_or bs i 0)
-  standby_here bs i lt takes =
-      at_drop_more (first_standby test p) bs i 0 lt ∙ cond-true _ (Some (get_or bs i 0)) (first_standby test p (drop (i + 1) bs)) takes
-
-  -- it is not
-  pub standby_more :
-      (bs : List ℕ) (i : ℕ) → i < length bs → (not (eqb (get_or bs i 0) p) && test (get_or bs i 0)) ≡ false →
-      first_standby test p (drop i bs) ≡ first_standby test p (drop (i + 1) bs)
-  standby_more bs i lt fails =
-      at_drop_more (first_standby test p) bs i 0 lt ∙ cond-false _ (Some (get_or bs i 0)) (first_standby test p (drop (i + 1) bs)) fails
-
-  -- there are no more
-  pub standby_end : (bs : List ℕ) (i : ℕ) → length bs ≤ i → first_standby test p (drop i bs) ≡ None
-  standby_end bs i past = at_drop_all (first_standby test p) bs i past
-
   -- the standby that is taken is one of the list, is not the primary, and passes the test
   pub standby_some : (bs : List ℕ) (b : ℕ) → first_standby test p bs ≡ Some b → In b bs × (b ≡ p → ⊥) × (test b ≡ true)
   standby_some [] b e = let z : ◌≡◌ {A = ℕ} 0 1 = cc in absurd (omega arith)
@@ -86,15 +68,6 @@ chosen_none p (Some b) active next e = let z : ◌≡◌ {A = ℕ} 0 1 = cc in a
 chosen_none p None (Some b) next e = let z : ◌≡◌ {A = ℕ} 0 1 = cc in absurd (omega arith)
 chosen_none p None None next e = (refl, refl, e)
 
--- without a choice, what comes next
-chosen_next :
-    (p : ℕ) (passive active : Option ℕ) (next : Option Choice) →
-    chosen_or p Passive passive (chosen_or p Active active None) ≡ None →
-    chosen_or p Passive passive (chosen_or p Active active next) ≡ next
-chosen_next p (Some b) active next e = let z : ◌≡◌ {A = ℕ} 0 1 = cc in absurd (omega arith)
-chosen_next p None (Some b) next e = let z : ◌≡◌ {A = ℕ} 0 1 = cc in absurd (omega arith)
-chosen_next p None None next e = refl
-
 -- with a choice, that one
 chosen_first :
     (p : ℕ) (passive active : Option ℕ) (next : Option Choice) (c : Choice) →
@@ -117,15 +90,6 @@ module _ (test : ℕ → Status → ℕ → Bool) (turns : List ℕ) where
       let p : ℕ = get_or ps i 0 in
       at_drop_more (λ l. first_choice test l turns) ps i 0 lt
       ∙ chosen_first p (at_status p Passive) (at_status p Active) (first_choice test (drop (i + 1) ps) turns) c is
-
-  -- it has none
-  pub choice_more :
-      (ps : List ℕ) (i : ℕ) → i < length ps → first_with (test (get_or ps i 0)) (get_or ps i 0) turns None ≡ None →
-      first_choice test (drop i ps) turns ≡ first_choice test (drop (i + 1) ps) turns
-  choice_more ps i lt is =
-      let p : ℕ = get_or ps i 0 in
-      at_drop_more (λ l. first_choice test l turns) ps i 0 lt
-      ∙ chosen_next p (at_status p Passive) (at_status p Active) (first_choice test (drop (i + 1) ps) turns) is
 
   -- there are no more
   pub choice_end : (ps : List ℕ) (i : ℕ) → length ps ≤ i → first_choice test (drop i ps) turns ≡ None

@@ -89,16 +89,6 @@ module _ (before : Terms → Terms → Bool) (m : ℕ) (ps : List Placement) whe
             (cases_order i r);
       }
 
-  -- a figure that is known where the machine has not changed, and else computed, is the quiet figure
-  pub figure_known :
-      (x : Placement) (known : List ℕ) (i : ℕ) (p : Placement) (r : Option ℕ) → Known before x ps known → i < length ps → p ≡ get_or ps i p →
-      r ≡ cond (changed x p.primary) (quiet_figure before ps p) (Some (get_or known i 0)) → r ≡ quiet_figure before ps p
-  figure_known x known i p r knows lt read is =
-      ⊎_elim
-      (λ there. is ∙ cond-true (changed x p.primary) (quiet_figure before ps p) (Some (get_or known i 0)) there)
-      (λ away. is ∙ cond-false (changed x p.primary) (quiet_figure before ps p) (Some (get_or known i 0)) away ∙ sym (knows.figures i p lt read away))
-      (cases_Bool (changed x p.primary))
-
   -- so they are whichever choice is put in for the terms of a job that has its place there
   pub ready_beside :
       (p : Placement) (r : ℕ) (known : List ℕ) → passes before m ps ≡ true → r ≤ length ps → insert ps r p ≡ with_job p ps →
@@ -125,11 +115,3 @@ module _ (before : Terms → Terms → Bool) (m : ℕ) (ps : List Placement) whe
       go : (o : Option Choice) → first_choice (tried_at before m ps t) turns turns ≡ o → o ≡ None
       go None e = refl
       go (Some c) e = absurd (both_ways _ (untried (placement_of t c.0 c.1 c.2)) (choice_some (tried_at before m ps t) turns turns c e).3)
-
--- the same figures are as ready for the same plan
-pub ready_still :
-    (before : Terms → Terms → Bool) (t : Terms) (m m' : ℕ) (ps qs : List Placement) (known held : List ℕ) → m' ≡ m → qs ≡ ps → held ≡ known →
-    Ready before m ps t known → Ready before m' qs t held
-ready_still before t m m' ps qs known held count items same ready =
-    subst (λ (k : ℕ). Ready before k qs t held) (sym count)
-    (subst (λ (l : List Placement). Ready before m l t held) (sym items) (subst (λ (l : List ℕ). Ready before m ps t l) (sym same) ready))

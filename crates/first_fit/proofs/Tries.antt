@@ -36,6 +36,12 @@ in_and_out p (q ∷ qs) none =
 pub addable_new : (m : ℕ) (ps : List Placement) (p : Placement) → addable m ps p ≡ true → is_some (find (number p) ps) ≡ false
 addable_new m ps p e = not-true _ (and_parts _ _ e).0
 
+-- so it is put in and taken out again
+pub taken_back :
+    (m : ℕ) (p : Placement) (ps put back : List Placement) → addable m ps p ≡ true → put ≡ with_job p ps → back ≡ without (number p) put →
+    back ≡ ps
+taken_back m p ps put back may is out = out ∙ ap (without (number p)) is ∙ in_and_out p ps (addable_new m ps p may)
+
 -- so no other job has its number
 pub new_number : (m : ℕ) (ps : List Placement) (p : Placement) → addable m ps p ≡ true → (q : Placement) → In q ps → number q ≡ number p → ⊥
 new_number m ps p may = find_none (number p) ps (is_none (find (number p) ps) (addable_new m ps p may))
@@ -53,9 +59,3 @@ tried_fails before m m' ps qs p count put fails =
     (λ may. ap (λ b. b && passes before m (with_job p ps)) may ∙ fails')
     (λ may_not. ap (λ b. b && passes before m (with_job p ps)) may_not)
     (cases_Bool (addable m ps p))
-
--- what was tried passes
-pub tried_passes : (before : Terms → Terms → Bool) (m m' : ℕ) (ps qs : List Placement) (p : Placement) → addable m ps p ≡ true → m' ≡ m → qs ≡ with_job p ps → passes before m' qs ≡ true → tried before m ps p ≡ true
-tried_passes before m m' ps qs p may count put pass =
-    ap (λ b. b && passes before m (with_job p ps)) may
-    ∙ ap (λ k. passes before k (with_job p ps)) (sym count) ∙ ap (passes before m') (sym put) ∙ pass

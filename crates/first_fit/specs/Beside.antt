@@ -1,5 +1,6 @@
 -- What of a plan a further job can change, and the plan test of that alone.
-use Rattle.std.specs.Prelude.{◌≡◌, ℕ, ◌<◌, Bool, true, false, not, ◌&&◌, ◌||◌, List, [], ◌∷◌, length, Some, ◌==◌, slice_index, slice_index_or}
+use Rattle.std.specs.Prelude.{◌≡◌, ℕ, ◌<◌, Bool, true, false, not, ◌&&◌, ◌||◌, List, length, Some, ◌==◌, slice_index, slice_index_or}
+use Rattle.std.specs.List.{list_any}
 use Rattle.terms.specs.declared.terms.Terms.{Terms}
 use Rattle.rack.specs.declared.placement.Placement.{Placement}
 use Rattle.rack.specs.Plan.{active}
@@ -20,8 +21,7 @@ asks here there g f p =
 
 -- some placement passes a test
 abbrev pub any_of : (Placement → Bool) → List Placement → Bool
-any_of test [] = false
-any_of test (p ∷ ps) = test p || any_of test ps
+any_of test ps = list_any test ps
 
 -- beside the further job x, g is tested for the loss of f
 abbrev pub asked : Placement → List Placement → ℕ → ℕ → Bool

@@ -1,8 +1,11 @@
-ghost use Rattle.std.specs.Prelude.{◌≡◌, ◌≤◌, Bool, true, map, if◌then◌else◌, Some, vec_capacity};
-ghost use Rattle.rack.specs.Sets.{passive_late, quiet_figure};
+ghost use Rattle.std.specs.Prelude.{◌≡◌, ◌&&◌, IfSome, is_some, map};
+ghost use Rattle.rack.specs.Sets.{passive_late};
+ghost use Rattle.rack.specs.Test.{all_below};
 ghost use Rattle.plantest.specs.Sweep.{pair_passes, quiet_passes};
 ghost use Rattle.first_fit.specs.Beside.{Known, any_of, asked, asks, changed, machine_beside, pair_beside, touched_passes};
 
+use crate::latenesses::Figures;
+use crate::search::Search;
 use plantest::{Workspace, pair_passes, quiet_figure};
 use precedence::Precedence;
 use rack::{Placement, Status};
@@ -41,12 +44,7 @@ fn asks_for(p: &Placement, here: bool, there: bool, g: u8, f: u8) -> bool
 fn any_asks(placements: &[Placement], here: bool, there: bool, g: u8, f: u8) -> bool
     ensures { result ≡ any_of (asks here there g f) placements.now }
 {
-    for p in placements {
-        if asks_for(p, here, there, g, f) {
-            return true;
-        }
-    }
-    false
+    placements.iter().any(|p| asks_for(p, here, there, g, f))
 }
 
 // Whether g is tested for the loss of f beside the job.
@@ -61,131 +59,106 @@ fn is_asked(placements: &[Placement], x: &Placement, g: u8, f: u8) -> bool
     any_asks(placements, here, there, g, f)
 }
 
-// The quiet figure of a job: what is known of it, unless its primary's machine has changed.
-fn figure_beside<R: Precedence>(
-    rule: &R,
-    roster: &Roster,
-    space: &mut Workspace,
-    x: &Placement,
-    p: &Placement,
-    known: u32,
-) -> Option<u32>
-    ensures { result ≡ (if changed x.now p.now.primary then quiet_figure (R.Precedence.before rule.now) roster.now.placements.items p.now else Some known) }
-{
-    if is_changed(x, p.primary) {
-        return quiet_figure(rule, roster, p, space);
-    }
-    Some(known)
+// The plan of a roster with a further job x in it, and how late its passive standbys are.
+#[derive(Drop)]
+struct Beside<'a, R: Precedence> {
+    rule: &'a R,
+    roster: &'a Roster,
+    lates: &'a [u32],
+    x: &'a Placement,
+    ghost right: { lates.now ≡ map (passive_late (R.Precedence.before rule.now) roster.now.placements.items) roster.now.placements.items },
 }
 
-// Whether every primary has its quiet figure; then these are the latenesses of the passive standbys.
-fn quiet_beside<R: Precedence>(
-    rule: &R,
-    roster: &Roster,
-    space: &mut Workspace,
-    known: &[u32],
-    lates: &mut Vec<u32>,
-    x: &Placement,
-) -> bool
-    requires known { Known (R.Precedence.before rule.now) x.now roster.now.placements.items known.now }
-    requires room { 96 ≤ vec_capacity lates.old }
-    ensures test { result ≡ quiet_passes (R.Precedence.before rule.now) roster.now.placements.items }
-    ensures figures { result ≡ true → lates.new.items ≡ map (passive_late (R.Precedence.before rule.now) roster.now.placements.items) roster.now.placements.items }
-    ensures kept { vec_capacity lates.new ≡ vec_capacity lates.old }
-{
-    let placements = roster.placements();
-    lates.clear();
-    for i in 0..placements.len() {
-        match figure_beside(rule, roster, space, x, &placements[i], known[i]) {
-            None => return false,
-            Some(late) => lates.push_reserved(late),
+impl<R: Precedence> Beside<'_, R> {
+    // Whether every copy in the loss set of g when f stops has its figure there.
+    fn pair_fits(&self, space: &mut Workspace, g: u8, f: u8) -> bool
+        ensures { result ≡ pair_passes (R.Precedence.before self.now.rule.now) self.now.roster.now.placements.items g f }
+    {
+        pair_passes(self.rule, self.roster, self.lates, g, f, space)
+    }
+
+    // The same where it is asked for beside the job.
+    fn pair_beside(&self, space: &mut Workspace, g: u8, f: u8) -> bool
+        ensures { result ≡ pair_beside (R.Precedence.before self.now.rule.now) self.now.x.now self.now.roster.now.placements.items g f }
+    {
+        f == g || !is_asked(self.roster.placements(), self.x, g, f) || self.pair_fits(space, g, f)
+    }
+
+    // The same whichever machine stops.
+    fn machine_beside(&self, space: &mut Workspace, g: u8) -> bool
+        ensures { result ≡ machine_beside (R.Precedence.before self.now.rule.now) self.now.roster.now.machines self.now.x.now self.now.roster.now.placements.items g }
+    {
+        // No `all`, here and below: its closure would change `space`, and no chain proof goes through such a closure.
+        for f in 0..self.roster.machines() {
+            if !self.pair_beside(space, g, f) {
+                return false;
+            }
         }
+        true
     }
-    true
-}
 
-// Whether every copy in the loss set of g when f stops has its figure there.
-fn pair_fits<R: Precedence>(
-    rule: &R,
-    roster: &Roster,
-    space: &mut Workspace,
-    lates: &[u32],
-    g: u8,
-    f: u8,
-) -> bool
-    requires { lates.now ≡ map (passive_late (R.Precedence.before rule.now) roster.now.placements.items) roster.now.placements.items }
-    ensures { result ≡ pair_passes (R.Precedence.before rule.now) roster.now.placements.items g f }
-{
-    pair_passes(rule, roster, lates, g, f, space)
-}
-
-// The same where it is asked for beside the job.
-fn pair_beside<R: Precedence>(
-    rule: &R,
-    roster: &Roster,
-    space: &mut Workspace,
-    lates: &[u32],
-    x: &Placement,
-    g: u8,
-    f: u8,
-) -> bool
-    requires { lates.now ≡ map (passive_late (R.Precedence.before rule.now) roster.now.placements.items) roster.now.placements.items }
-    ensures { result ≡ pair_beside (R.Precedence.before rule.now) x.now roster.now.placements.items g f }
-{
-    if f == g {
-        return true;
-    }
-    if !is_asked(roster.placements(), x, g, f) {
-        return true;
-    }
-    pair_fits(rule, roster, space, lates, g, f)
-}
-
-// The same whichever machine stops.
-fn machine_beside<R: Precedence>(
-    rule: &R,
-    roster: &Roster,
-    space: &mut Workspace,
-    lates: &[u32],
-    x: &Placement,
-    g: u8,
-) -> bool
-    requires { lates.now ≡ map (passive_late (R.Precedence.before rule.now) roster.now.placements.items) roster.now.placements.items }
-    ensures { result ≡ machine_beside (R.Precedence.before rule.now) roster.now.machines x.now roster.now.placements.items g }
-{
-    for f in 0..roster.machines() {
-        if !pair_beside(rule, roster, space, lates, x, g, f) {
+    // The same of each machine. The job's own standby's pair comes first, since that is where most choices fail.
+    fn pairs_pass(&self, space: &mut Workspace) -> bool
+        ensures { result ≡ (pair_passes (R.Precedence.before self.now.rule.now) self.now.roster.now.placements.items self.now.x.now.standby self.now.x.now.primary && all_below self.now.roster.now.machines (machine_beside (R.Precedence.before self.now.rule.now) self.now.roster.now.machines self.now.x.now self.now.roster.now.placements.items)) }
+    {
+        if !self.pair_fits(space, self.x.standby, self.x.primary) {
             return false;
         }
+        for g in 0..self.roster.machines() {
+            if !self.machine_beside(space, g) {
+                return false;
+            }
+        }
+        true
     }
-    true
 }
 
-// Whether all that the job can change in the plan that has it passes. Its own standby's pair comes first, since
-// that is where most choices fail.
-pub(crate) fn passes_beside<R: Precedence>(
-    rule: &R,
-    roster: &Roster,
-    space: &mut Workspace,
-    known: &[u32],
-    lates: &mut Vec<u32>,
-    x: &Placement,
-) -> bool
-    requires known { Known (R.Precedence.before rule.now) x.now roster.now.placements.items known.now }
-    requires room { 96 ≤ vec_capacity lates.old }
-    ensures test { result ≡ touched_passes (R.Precedence.before rule.now) roster.now.machines x.now roster.now.placements.items }
-    ensures kept { vec_capacity lates.new ≡ vec_capacity lates.old }
-{
-    if !quiet_beside(rule, roster, space, known, lates, x) {
-        return false;
-    }
-    if !pair_fits(rule, roster, space, lates.as_slice(), x.standby, x.primary) {
-        return false;
-    }
-    for g in 0..roster.machines() {
-        if !machine_beside(rule, roster, space, lates.as_slice(), x, g) {
-            return false;
+impl<R: Precedence> Search<'_, R> {
+    // If every primary has its quiet figure beside the job, these: the latenesses of the passive standbys. What is
+    // known of a primary stands unless its machine has changed.
+    fn quiet_beside<'a>(
+        &self,
+        roster: &Roster,
+        space: &mut Workspace,
+        lates: &'a mut Figures,
+        x: &Placement,
+    ) -> Option<&'a [u32]>
+        requires { Known (R.Precedence.before self.now.rule.now) x.now roster.now.placements.items self.now.known.now }
+        ensures test { is_some result ≡ quiet_passes (R.Precedence.before self.now.rule.now) roster.now.placements.items }
+        ensures figures { IfSome result (λ l. l.now ≡ map (passive_late (R.Precedence.before self.now.rule.now) roster.now.placements.items) roster.now.placements.items) }
+    {
+        lates.items.clear();
+        for (p, known) in roster.placements().iter().zip(self.known) {
+            let late = if is_changed(x, p.primary) {
+                quiet_figure(self.rule, roster, p, space)?
+            } else {
+                *known
+            };
+            lates.items.push_reserved(late);
         }
+        Some(lates.items.as_slice())
     }
-    true
+
+    // Whether all that the job can change in the plan that has it passes.
+    pub(crate) fn passes_beside(
+        &self,
+        roster: &Roster,
+        space: &mut Workspace,
+        lates: &mut Figures,
+        x: &Placement,
+    ) -> bool
+        requires { Known (R.Precedence.before self.now.rule.now) x.now roster.now.placements.items self.now.known.now }
+        ensures { result ≡ touched_passes (R.Precedence.before self.now.rule.now) roster.now.machines x.now roster.now.placements.items }
+    {
+        let Some(lates) = self.quiet_beside(roster, space, lates, x) else {
+            return false;
+        };
+        let beside = Beside {
+            rule: self.rule,
+            roster,
+            lates,
+            x,
+        };
+        beside.pairs_pass(space)
+    }
 }

@@ -1,13 +1,12 @@
-ghost use Rattle.std.specs.Prelude.{◌≡◌, not, ◌&&◌, if◌then◌else◌, None, ◌==◌};
+ghost use Rattle.std.specs.Prelude.{◌≡◌, if◌then◌else◌, None};
 ghost use Rattle.first_fit.specs.Beside.{Ready};
 ghost use Rattle.first_fit.specs.Choices.{first_standby, first_with};
 ghost use Rattle.first_fit.specs.Trying.{choice_jobs, jobs_at, tried, tried_at, tried_first};
 ghost use Rattle.roster.specs.Changes.{with_job};
 
-use crate::beside::passes_beside;
 use crate::knowing::know;
-use crate::latenesses::Latenesses;
-use crate::room::has_room;
+use crate::latenesses::{Figures, Latenesses};
+use crate::search::Search;
 use crate::trying::take_back;
 use plantest::Workspace;
 use precedence::Precedence;
@@ -15,175 +14,102 @@ use rack::{Placement, Status};
 use roster::Roster;
 use terms::Terms;
 
-// Puts the job into a plan that passes, and takes it out again unless the plan still does.
-fn try_beside<R: Precedence>(
-    rule: &R,
-    roster: &mut Roster,
-    space: &mut Workspace,
-    lates: &mut Latenesses,
-    p: Placement,
-) -> bool
-    requires { Ready (R.Precedence.before rule.now) roster.old.machines roster.old.placements.items p.terms lates.old.known.items }
-    ensures test { result ≡ tried (R.Precedence.before rule.now) roster.old.machines roster.old.placements.items p }
-    ensures jobs { roster.new.placements.items ≡ (if result then with_job p roster.old.placements.items else roster.old.placements.items) }
-    ensures machines { roster.new.machines ≡ roster.old.machines }
-    ensures known { lates.new.known.items ≡ lates.old.known.items }
-{
-    if !roster.insert(p) {
-        return false;
-    }
-    if passes_beside(
-        rule,
-        roster,
-        space,
-        lates.known.as_slice(),
-        &mut lates.tried,
-        &p,
-    ) {
-        return true;
-    }
-    take_back(roster, &p);
-    false
-}
-
-// The same where the two machines differ; where they do not, nothing is tried.
-fn try_apart<R: Precedence>(
-    rule: &R,
-    roster: &mut Roster,
-    space: &mut Workspace,
-    lates: &mut Latenesses,
-    p: Placement,
-) -> bool
-    requires { Ready (R.Precedence.before rule.now) roster.old.machines roster.old.placements.items p.terms lates.old.known.items }
-    ensures test { result ≡ (not (p.standby == p.primary) && tried (R.Precedence.before rule.now) roster.old.machines roster.old.placements.items p) }
-    ensures jobs { roster.new.placements.items ≡ (if result then with_job p roster.old.placements.items else roster.old.placements.items) }
-    ensures machines { roster.new.machines ≡ roster.old.machines }
-    ensures known { lates.new.known.items ≡ lates.old.known.items }
-{
-    if p.standby == p.primary {
-        return false;
-    }
-    try_beside(rule, roster, space, lates, p)
-}
-
-// The first standby in turn with which the job passes on this primary and with this status.
-fn try_standbys<R: Precedence>(
-    rule: &R,
-    roster: &mut Roster,
-    space: &mut Workspace,
-    lates: &mut Latenesses,
-    terms: Terms,
-    primary: u8,
-    status: Status,
-    turns: &[u8],
-) -> Option<u8>
-    requires { Ready (R.Precedence.before rule.now) roster.old.machines roster.old.placements.items terms lates.old.known.items }
-    ensures chosen { result ≡ first_standby (tried_at (R.Precedence.before rule.now) roster.old.machines roster.old.placements.items terms primary status) primary turns.now }
-    ensures jobs { roster.new.placements.items ≡ jobs_at terms primary status roster.old.placements.items result }
-    ensures machines { roster.new.machines ≡ roster.old.machines }
-    ensures known { lates.new.known.items ≡ lates.old.known.items }
-{
-    for i in 0..turns.len() {
-        let p = Placement {
-            terms,
-            primary,
-            standby: turns[i],
-            status,
-        };
-        if try_apart(rule, roster, space, lates, p) {
-            return Some(turns[i]);
+// Roster and memory are no fields: each method would have to ensure besides that its references keep their ghost
+// names and that all else stays. `Ready` stays a clause: a ghost field beside a `&mut` gets no proof.
+impl<R: Precedence> Search<'_, R> {
+    // Puts the job into a plan that passes, and takes it out again unless the plan still does.
+    fn try_beside(
+        &self,
+        roster: &mut Roster,
+        space: &mut Workspace,
+        lates: &mut Figures,
+        p: Placement,
+    ) -> bool
+        requires { Ready (R.Precedence.before self.now.rule.now) roster.old.machines roster.old.placements.items p.terms self.now.known.now }
+        ensures test { result ≡ tried (R.Precedence.before self.now.rule.now) roster.old.machines roster.old.placements.items p }
+        ensures jobs { roster.new.placements.items ≡ (if result then with_job p roster.old.placements.items else roster.old.placements.items) }
+        ensures machines { roster.new.machines ≡ roster.old.machines }
+    {
+        if !roster.insert(p) {
+            return false;
         }
-    }
-    None
-}
-
-// The first choice with this primary: passive with each standby in turn, then active.
-fn try_statuses<R: Precedence>(
-    rule: &R,
-    roster: &mut Roster,
-    space: &mut Workspace,
-    lates: &mut Latenesses,
-    terms: Terms,
-    primary: u8,
-    turns: &[u8],
-) -> Option<(u8, u8, Status)>
-    requires { Ready (R.Precedence.before rule.now) roster.old.machines roster.old.placements.items terms lates.old.known.items }
-    ensures chosen { result ≡ first_with (tried_at (R.Precedence.before rule.now) roster.old.machines roster.old.placements.items terms primary) primary turns.now None }
-    ensures jobs { roster.new.placements.items ≡ choice_jobs terms roster.old.placements.items result }
-    ensures machines { roster.new.machines ≡ roster.old.machines }
-    ensures known { lates.new.known.items ≡ lates.old.known.items }
-{
-    match try_standbys(
-        rule,
-        roster,
-        space,
-        lates,
-        terms,
-        primary,
-        Status::Passive,
-        turns,
-    ) {
-        Some(standby) => return Some((primary, standby, Status::Passive)),
-        None => {}
-    }
-    match try_standbys(
-        rule,
-        roster,
-        space,
-        lates,
-        terms,
-        primary,
-        Status::Active,
-        turns,
-    ) {
-        Some(standby) => Some((primary, standby, Status::Active)),
-        None => None,
-    }
-}
-
-// The same, but that nothing is tried where the primary finds no room.
-fn try_primary<R: Precedence>(
-    rule: &R,
-    roster: &mut Roster,
-    space: &mut Workspace,
-    lates: &mut Latenesses,
-    terms: Terms,
-    primary: u8,
-    turns: &[u8],
-) -> Option<(u8, u8, Status)>
-    requires { Ready (R.Precedence.before rule.now) roster.old.machines roster.old.placements.items terms lates.old.known.items }
-    ensures chosen { result ≡ first_with (tried_at (R.Precedence.before rule.now) roster.old.machines roster.old.placements.items terms primary) primary turns.now None }
-    ensures jobs { roster.new.placements.items ≡ choice_jobs terms roster.old.placements.items result }
-    ensures machines { roster.new.machines ≡ roster.old.machines }
-    ensures known { lates.new.known.items ≡ lates.old.known.items }
-{
-    if !has_room(rule, roster, space, terms, primary) {
-        return None;
-    }
-    try_statuses(rule, roster, space, lates, terms, primary, turns)
-}
-
-// The first choice of all: each primary in turn.
-fn try_primaries<R: Precedence>(
-    rule: &R,
-    roster: &mut Roster,
-    space: &mut Workspace,
-    lates: &mut Latenesses,
-    terms: Terms,
-    turns: &[u8],
-) -> Option<(u8, u8, Status)>
-    requires { Ready (R.Precedence.before rule.now) roster.old.machines roster.old.placements.items terms lates.old.known.items }
-    ensures chosen { result ≡ tried_first (R.Precedence.before rule.now) roster.old.machines roster.old.placements.items terms turns.now }
-    ensures jobs { roster.new.placements.items ≡ choice_jobs terms roster.old.placements.items result }
-    ensures machines { roster.new.machines ≡ roster.old.machines }
-    ensures known { lates.new.known.items ≡ lates.old.known.items }
-{
-    for i in 0..turns.len() {
-        if let Some(choice) = try_primary(rule, roster, space, lates, terms, turns[i], turns) {
-            return Some(choice);
+        if self.passes_beside(roster, space, lates, &p) {
+            return true;
         }
+        take_back(roster, &p);
+        false
     }
-    None
+
+    // The first standby in turn with which the job passes on this primary and with this status.
+    fn try_standbys(
+        &self,
+        roster: &mut Roster,
+        space: &mut Workspace,
+        lates: &mut Figures,
+        primary: u8,
+        status: Status,
+    ) -> Option<u8>
+        requires { Ready (R.Precedence.before self.now.rule.now) roster.old.machines roster.old.placements.items self.now.terms self.now.known.now }
+        ensures chosen { result ≡ first_standby (tried_at (R.Precedence.before self.now.rule.now) roster.old.machines roster.old.placements.items self.now.terms primary status) primary self.now.turns.now }
+        ensures jobs { roster.new.placements.items ≡ jobs_at self.now.terms primary status roster.old.placements.items result }
+        ensures machines { roster.new.machines ≡ roster.old.machines }
+    {
+        for standby in self.turns {
+            let p = Placement {
+                terms: self.terms,
+                primary,
+                standby: *standby,
+                status,
+            };
+            if *standby != primary && self.try_beside(roster, space, lates, p) {
+                return Some(*standby);
+            }
+        }
+        None
+    }
+
+    // The first choice with this primary, if it finds room there: passive with each standby in turn, then active.
+    fn try_primary(
+        &self,
+        roster: &mut Roster,
+        space: &mut Workspace,
+        lates: &mut Figures,
+        primary: u8,
+    ) -> Option<(u8, u8, Status)>
+        requires { Ready (R.Precedence.before self.now.rule.now) roster.old.machines roster.old.placements.items self.now.terms self.now.known.now }
+        ensures chosen { result ≡ first_with (tried_at (R.Precedence.before self.now.rule.now) roster.old.machines roster.old.placements.items self.now.terms primary) primary self.now.turns.now None }
+        ensures jobs { roster.new.placements.items ≡ choice_jobs self.now.terms roster.old.placements.items result }
+        ensures machines { roster.new.machines ≡ roster.old.machines }
+    {
+        if !self.has_room(roster, space, primary) {
+            return None;
+        }
+        if let Some(standby) = self.try_standbys(roster, space, lates, primary, Status::Passive) {
+            return Some((primary, standby, Status::Passive));
+        }
+        let standby = self.try_standbys(roster, space, lates, primary, Status::Active)?;
+        Some((primary, standby, Status::Active))
+    }
+
+    // The first choice of all: each primary in turn.
+    fn try_primaries(
+        &self,
+        roster: &mut Roster,
+        space: &mut Workspace,
+        lates: &mut Figures,
+    ) -> Option<(u8, u8, Status)>
+        requires { Ready (R.Precedence.before self.now.rule.now) roster.old.machines roster.old.placements.items self.now.terms self.now.known.now }
+        ensures chosen { result ≡ tried_first (R.Precedence.before self.now.rule.now) roster.old.machines roster.old.placements.items self.now.terms self.now.turns.now }
+        ensures jobs { roster.new.placements.items ≡ choice_jobs self.now.terms roster.old.placements.items result }
+        ensures machines { roster.new.machines ≡ roster.old.machines }
+    {
+        for primary in self.turns {
+            if let Some(choice) = self.try_primary(roster, space, lates, *primary) {
+                return Some(choice);
+            }
+        }
+        None
+    }
 }
 
 // The first choice in these turns with which the plan passes, put in; where there is none the plan stays as it is.
@@ -200,8 +126,12 @@ pub fn first_passing<R: Precedence>(
     ensures jobs { roster.new.placements.items ≡ choice_jobs terms roster.old.placements.items result }
     ensures machines { roster.new.machines ≡ roster.old.machines }
 {
-    if !know(rule, roster, space, &mut lates.known, terms) {
-        return None;
-    }
-    try_primaries(rule, roster, space, lates, terms, turns)
+    let known = know(rule, roster, space, &mut lates.known, terms)?;
+    let search = Search {
+        rule,
+        terms,
+        turns,
+        known,
+    };
+    search.try_primaries(roster, space, &mut lates.tried)
 }

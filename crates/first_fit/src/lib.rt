@@ -7,6 +7,7 @@ mod choices;
 mod knowing;
 mod latenesses;
 mod room;
+mod search;
 mod trying;
 
 pub use choices::first_passing;

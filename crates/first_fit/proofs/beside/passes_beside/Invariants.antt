@@ -1,8 +1,0 @@
-use Rattle.std.proofs.Common.{◌≡◌, true, vec_items}
-use Rattle.rack.specs.Test.{all_below}
-use Rattle.first_fit.specs.Beside.{machine_beside}
-use Rattle.first_fit.proofs.beside.passes_beside.Given as goal
-
-abbrev pub invariant-loop-g : goal.invariant-loop-g
-invariant-loop-g g l =
-    all_below l.g (machine_beside (g.R.Precedence.before l.rule) l.roster.machines l.x (vec_items l.roster.placements)) ≡ true
