@@ -7,7 +7,7 @@ ghost use Rattle.first_fit.specs.Trying.{tried};
 
 use crate::admit::admit;
 use crate::plan::Plan;
-use crate::search::try_choice;
+use first_fit::try_choice;
 use orders::SearchOrder;
 use plantest::Workspace;
 use precedence::Precedence;

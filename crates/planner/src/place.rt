@@ -6,8 +6,8 @@ ghost use Rattle.first_fit.specs.Trying.{choice_jobs, tried_first};
 
 use crate::admit::admit;
 use crate::plan::Plan;
-use crate::search::try_primaries;
 use crate::turns::turns_of;
+use first_fit::{Latenesses, first_passing};
 use orders::SearchOrder;
 use plantest::Workspace;
 use precedence::Precedence;
@@ -21,6 +21,7 @@ fn try_in_turn<R: Precedence, O: SearchOrder>(
     order: &O,
     roster: &mut Roster,
     space: &mut Workspace,
+    lates: &mut Latenesses,
     terms: Terms,
     loads: &[u64; 16],
 ) -> Option<(u8, u8, Status)>
@@ -30,7 +31,7 @@ fn try_in_turn<R: Precedence, O: SearchOrder>(
 {
     let machines = roster.machines();
     let all = turns_of(order, machines, loads);
-    try_primaries(rule, roster, space, terms, &all[..machines as usize])
+    first_passing(rule, roster, space, lates, terms, &all[..machines as usize])
 }
 
 // A choice as an answer: refusal 5 where there is none.
@@ -48,6 +49,7 @@ fn place_in<R: Precedence, O: SearchOrder>(
     order: &O,
     roster: &mut Roster,
     space: &mut Workspace,
+    lates: &mut Latenesses,
     draft: Draft,
 ) -> Result<(u8, u8, Status), Refusal>
     ensures answer { result ≡ place_answer (R.Precedence.before rule.now) (O.SearchOrder.turns order.now) roster.old.machines roster.old.placements.items draft }
@@ -61,7 +63,7 @@ fn place_in<R: Precedence, O: SearchOrder>(
         Err(refusal) => return Err(refusal),
     };
     let loads = roster.loads();
-    chosen_of(try_in_turn(rule, order, roster, space, terms, &loads))
+    chosen_of(try_in_turn(rule, order, roster, space, lates, terms, &loads))
 }
 
 impl<R: Precedence + Drop, O: SearchOrder + Drop> Plan<R, O> {
@@ -78,6 +80,7 @@ impl<R: Precedence + Drop, O: SearchOrder + Drop> Plan<R, O> {
             &self.order,
             &mut self.roster,
             &mut self.space,
+            &mut self.lates,
             draft,
         )
     }
