@@ -1,22 +1,23 @@
 -- What the first choice that passes says: of the job, of the plan after it, and of the job that has none.
 use Rattle.std.proofs.Common.{◌≡◌, ℕ, ◌<◌, Bool, true, false, cond, ◌&&◌, ltb, List, length, is_some, Some, None, Ok, Err, Option, Result, sym, refl, ap, ◌∙◌, subst, ⊎_elim, arith}
+use Rattle.std.specs.Option.{ok_or}
 use Rattle.std.proofs.lemmas.List.{get_or_default}
-use Rattle.std.proofs.lemmas.Bool.{cond_both, lt-ltb, ltb-true, not_from_false}
+use Rattle.std.proofs.lemmas.Bool.{and_parts, cond_both, lt-ltb, ltb-true, not_from_false}
 use Rattle.terms.specs.declared.terms.Terms.{Terms}
 use Rattle.terms.specs.declared.refusal.Refusal.{Refusal}
 use Rattle.terms.specs.declared.refusal.Refusal.TheVariants.{NoPlace, Pin}
 use Rattle.rack.specs.declared.placement.Status.{Status}
 use Rattle.rack.specs.declared.placement.Placement.{Placement}
 use Rattle.rack.specs.Plan.{In, number}
-use Rattle.rack.specs.Test.{Passes}
+use Rattle.rack.specs.Test.{Passes, passes}
 use Rattle.rack.proofs.Tested.{in_at, at_in, passes_means, passes_true}
 use Rattle.rack.proofs.Parts.{fewer_pass}
 use Rattle.orders.specs.Turns.{EachOnce}
 use Rattle.orders.specs.TurnsLemmas.{every_turn}
-use Rattle.roster.specs.Changes.{find, with_job}
+use Rattle.roster.specs.Changes.{addable, find, with_job, without}
 use Rattle.roster.specs.Rising.{placed, rising}
-use Rattle.roster.proofs.Jobs.{in_with_job, find_none}
-use Rattle.roster.proofs.Ordered.{rising_once, rising_with_job}
+use Rattle.roster.proofs.Jobs.{in_with_job, find_none, without_part}
+use Rattle.roster.proofs.Ordered.{rising_once, rising_with_job, rising_without}
 use Rattle.plantest.proofs.Listings.{placed_true}
 use Rattle.first_fit.specs.Choices.{Choice, placement_of, passes_beside, first_choice}
 use Rattle.planner.specs.Answers.{admitted_terms, chosen, jobs_with, pinned}
@@ -48,6 +49,11 @@ admitted_free ps (Some u) t e =
 pub jobs_chosen : (t : Terms) (ps : List Placement) (o : Option Choice) → choice_jobs t ps o ≡ jobs_with ps (Ok t) (chosen o)
 jobs_chosen t ps None = refl
 jobs_chosen t ps (Some c) = refl
+
+-- a choice as an answer
+pub chosen_is : (o : Option Choice) → ok_or o NoPlace ≡ chosen o
+chosen_is None = refl
+chosen_is (Some c) = refl
 
 -- refusal 5 is the answer where there is no choice
 pub chosen_refused : (o : Option Choice) → chosen o ≡ Err NoPlace → o ≡ None
@@ -127,3 +133,20 @@ module _ (before : Terms → Terms → Bool) (m : ℕ) (ps : List Placement) (t 
       (fewer_pass before m wider pass (with_job own ps)
       (rising_once (with_job own ps) (rising_with_job own ps up (find_none (number own) ps (is_none (find (number own) ps) new))))
       (λ q at. ⊎_elim (λ (same : q ≡ own). subst (λ x. In x wider) (sym same) w.has) (λ other. w.keeps q other) (in_with_job own q ps at)))
+
+-- fewer jobs never hurt
+pub keeps_without :
+    (before : Terms → Terms → Bool) (m n : ℕ) (ps qs : List Placement) → rising ps ≡ true → qs ≡ without n ps →
+    Passes before m ps → Passes before m qs
+keeps_without before m n ps qs up is pass =
+    subst (λ (xs : List Placement). Passes before m xs) (sym is)
+    (fewer_pass before m ps pass (without n ps) (rising_once (without n ps) (rising_without n ps up)) (λ q at. without_part n q ps at))
+
+-- a plan in which one choice was tried
+pub keeps_tried :
+    (before : Terms → Terms → Bool) (m : ℕ) (ps qs : List Placement) (p : Placement) (done : Bool) → done ≡ tried before m ps p →
+    qs ≡ cond done (with_job p ps) ps → Passes before m ps → Passes before m qs
+keeps_tried before m ps qs p false is jobs pass = subst (λ (xs : List Placement). Passes before m xs) (sym jobs) pass
+keeps_tried before m ps qs p true is jobs pass =
+    subst (λ (xs : List Placement). Passes before m xs) (sym jobs)
+    (passes_means before m (with_job p ps) (and_parts (addable m ps p) (passes before m (with_job p ps)) (sym is)).1)

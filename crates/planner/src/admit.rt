@@ -21,8 +21,6 @@ fn admit_terms(roster: &Roster, terms: Terms) -> Result<Terms, Refusal>
 pub(crate) fn admit(roster: &Roster, draft: Draft) -> Result<Terms, Refusal>
     ensures { result ≡ admitted roster.now.placements.items draft }
 {
-    match Terms::new(draft) {
-        Ok(terms) => admit_terms(roster, terms),
-        Err(refusal) => Err(refusal),
-    }
+    let terms = Terms::new(draft)?;
+    admit_terms(roster, terms)
 }

@@ -13,9 +13,7 @@ impl<R: Precedence + Drop, O: SearchOrder + Drop> Plan<R, O> {
         ensures answer { result ≡ figures_answer (R.Precedence.before self.old.rule) self.old.roster.machines self.old.roster.placements.items number }
         ensures same { (self.new.rule ≡ self.old.rule) × (self.new.order ≡ self.old.order) × (self.new.roster ≡ self.old.roster) }
     {
-        match self.roster.find(number) {
-            None => Err(Refusal::Unknown),
-            Some(p) => Ok(job_figures(&self.rule, &self.roster, &p, &mut self.space)),
-        }
+        let p = self.roster.find(number).ok_or(Refusal::Unknown)?;
+        Ok(job_figures(&self.rule, &self.roster, &p, &mut self.space))
     }
 }

@@ -10,7 +10,6 @@ mod open;
 mod pin;
 mod place;
 mod plan;
-mod search;
 mod turns;
 mod withdraw;
 mod writing;

@@ -1,6 +1,7 @@
 ghost use Rattle.std.specs.Prelude.{◌≡◌, [], IfOk};
 
 use crate::incoming::Incoming;
+use first_fit::Latenesses;
 use orders::SearchOrder;
 use plantest::Workspace;
 use precedence::Precedence;
@@ -14,6 +15,7 @@ pub struct Plan<R: Precedence, O: SearchOrder> {
     pub(crate) order: O,
     pub(crate) roster: Roster,
     pub(crate) space: Workspace,
+    pub(crate) lates: Latenesses,
     // a file that is being adopted
     pub(crate) spare: Roster,
     pub(crate) incoming: Incoming,
@@ -26,6 +28,7 @@ impl<R: Precedence + Drop, O: SearchOrder + Drop> Plan<R, O> {
     {
         let roster = Roster::new(heap)?;
         let space = Workspace::new(heap)?;
+        let lates = Latenesses::new(heap)?;
         let spare = Roster::new(heap)?;
         let placements = Vec::with_capacity(heap, 96)?;
         let incoming = Incoming { placements };
@@ -34,6 +37,7 @@ impl<R: Precedence + Drop, O: SearchOrder + Drop> Plan<R, O> {
             order,
             roster,
             space,
+            lates,
             spare,
             incoming,
         })

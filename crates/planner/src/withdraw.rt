@@ -1,6 +1,6 @@
-ghost use Rattle.std.specs.Prelude.{◌≡◌, is_some};
+ghost use Rattle.std.specs.Prelude.{◌≡◌};
 ghost use Rattle.rack.specs.Test.{Passes};
-ghost use Rattle.roster.specs.Changes.{find, without};
+ghost use Rattle.roster.specs.Changes.{without};
 ghost use Rattle.planner.specs.Answers.{withdraw_answer};
 
 use crate::plan::Plan;
@@ -9,27 +9,14 @@ use precedence::Precedence;
 use terms::Refusal;
 
 impl<R: Precedence + Drop, O: SearchOrder + Drop> Plan<R, O> {
-    // Takes a job out, if it is there. Fewer jobs never hurt, so nothing is tested.
-    fn take_out(&mut self, number: u32) -> bool
-        ensures found { result ≡ is_some (find number self.old.roster.placements.items) }
-        ensures jobs { self.new.roster.placements.items ≡ without number self.old.roster.placements.items }
-        ensures same { (self.new.rule ≡ self.old.rule) × (self.new.order ≡ self.old.order) × (self.new.roster.machines ≡ self.old.roster.machines) }
-        ensures keeps { Passes (R.Precedence.before self.old.rule) self.old.roster.machines self.old.roster.placements.items → Passes (R.Precedence.before self.old.rule) self.old.roster.machines self.new.roster.placements.items }
-    {
-        self.roster.remove(number).is_some()
-    }
-
-    // Takes a job out of the plan, or answers refusal 6.
+    // Takes a job out of the plan, or answers refusal 6. Fewer jobs never hurt, so nothing is tested.
     pub fn withdraw(&mut self, number: u32) -> Result<(), Refusal>
         ensures answer { result ≡ withdraw_answer self.old.roster.placements.items number }
         ensures jobs { self.new.roster.placements.items ≡ without number self.old.roster.placements.items }
         ensures same { (self.new.rule ≡ self.old.rule) × (self.new.order ≡ self.old.order) × (self.new.roster.machines ≡ self.old.roster.machines) }
         ensures keeps { Passes (R.Precedence.before self.old.rule) self.old.roster.machines self.old.roster.placements.items → Passes (R.Precedence.before self.old.rule) self.old.roster.machines self.new.roster.placements.items }
     {
-        if self.take_out(number) {
-            Ok(())
-        } else {
-            Err(Refusal::Unknown)
-        }
+        self.roster.remove(number).ok_or(Refusal::Unknown)?;
+        Ok(())
     }
 }
