@@ -1,6 +1,5 @@
 pub mod Safes
 pub mod More
-pub mod Spaces
 pub mod Turns
 pub mod Admitting
 pub mod Pinned

@@ -1,62 +1,53 @@
 -- One call more of a list.
-use Rattle.std.proofs.Common.{◌≡◌, ℕ, zero, suc, ◌+◌, ◌<◌, Bool, List, [], ◌∷◌, ◌++◌, length, get_or, take, drop, set, sym, ap, ◌∙◌, subst, le_of_suc-le-suc, not-suc-le-zero, add-one, arith, take-suc-set, drop-set-lt}
-use Rattle.std.proofs.lemmas.List.{drop-drop}
+use Rattle.std.proofs.Common.{◌≡◌, ℕ, ◌+◌, ◌<◌, Bool, List, [], ◌∷◌, ◌++◌, length, get_or, take, set, sym, refl, ap, ◌∙◌, subst}
+use Rattle.std.proofs.lemmas.List.{take_more, take_more_set}
 use Rattle.terms.specs.declared.terms.Terms.{Terms}
-use Rattle.calls.specs.declared.call.Call.{Call}
-use Rattle.calls.specs.declared.answer.Answer.{Answer}
 use Rattle.plantest.specs.Verdicts.{Safe}
+use Rattle.calls.specs.declared.call.Call.{Call}
+use Rattle.calls.specs.Said.{Answer}
 use Rattle.calls.specs.Calls.{State, answer_of, after, after_all, answers_of}
-use Rattle.calls.specs.Carrying.{Right, Holds}
-
--- an answer stored after those before it
-pub stored : (xs : List Answer) (i : ℕ) (a : Answer) → i < length xs → take (i + 1) (set xs i a) ≡ take i xs ++ a ∷ []
-stored xs i a lt = rw add-one (take-suc-set xs i a lt)
-
--- leaves the later places as they were
-pub later_stay : (xs old : List Answer) (i : ℕ) (a : Answer) → drop i xs ≡ drop i old → drop (i + 1) (set xs i a) ≡ drop (i + 1) old
-later_stay xs old i a same =
-    drop-set-lt (i + 1) xs i a (omega arith) ∙ sym (drop-drop 1 i xs) ∙ ap (drop 1) same ∙ drop-drop 1 i old
+use Rattle.calls.specs.Carrying.{Right, Holds, Carried, AllCarried}
 
 module _ (before : Terms → Terms → Bool) (turns : ℕ → List ℕ → List ℕ) (code : ℕ) where
-  after_go : (s : State) (cs : List Call) (i : ℕ) (d x : Call) → i < length cs → x ≡ get_or cs i d → after_all before turns code s (take (suc i) cs) ≡ after before turns code (after_all before turns code s (take i cs)) x
-  after_go s [] i d x lt is = absurd (not-suc-le-zero lt)
-  after_go s (c ∷ cs) zero d x lt is = ap (after before turns code s) (sym is)
-  after_go s (c ∷ cs) (suc i) d x lt is = after_go (after before turns code s c) cs i d x (le_of_suc-le-suc lt) is
+  after_more : (s : State) (cs : List Call) (x : Call) → after_all before turns code s (cs ++ x ∷ []) ≡ after before turns code (after_all before turns code s cs) x
+  after_more s [] x = refl
+  after_more s (c ∷ cs) x = after_more (after before turns code s c) cs x
 
-  -- the state after one more
-  pub after_more : (s : State) (cs : List Call) (i : ℕ) (d x : Call) → i < length cs → x ≡ get_or cs i d → after_all before turns code s (take (i + 1) cs) ≡ after before turns code (after_all before turns code s (take i cs)) x
-  after_more s cs i d x lt is = rw add-one (after_go s cs i d x lt is)
+  answers_more : (s : State) (cs : List Call) (x : Call) → answers_of before turns code s (cs ++ x ∷ []) ≡ answers_of before turns code s cs ++ answer_of before turns code (after_all before turns code s cs) x ∷ []
+  answers_more s [] x = refl
+  answers_more s (c ∷ cs) x = ap (λ l. answer_of before turns code s c ∷ l) (answers_more (after before turns code s c) cs x)
 
-  answers_go : (s : State) (cs : List Call) (i : ℕ) (d x : Call) → i < length cs → x ≡ get_or cs i d → answers_of before turns code s (take (suc i) cs) ≡ answers_of before turns code s (take i cs) ++ answer_of before turns code (after_all before turns code s (take i cs)) x ∷ []
-  answers_go s [] i d x lt is = absurd (not-suc-le-zero lt)
-  answers_go s (c ∷ cs) zero d x lt is = ap (λ y. answer_of before turns code s y ∷ []) (sym is)
-  answers_go s (c ∷ cs) (suc i) d x lt is =
-      ap (λ l. answer_of before turns code s c ∷ l) (answers_go (after before turns code s c) cs i d x (le_of_suc-le-suc lt) is)
+  holds_more :
+      (s : State) (cs : List Call) (x : Call) → Holds before turns code s cs → Right before turns code (after_all before turns code s cs) x →
+      Safe before (after before turns code (after_all before turns code s cs) x).machines (after before turns code (after_all before turns code s cs) x).jobs →
+      Holds before turns code s (cs ++ x ∷ [])
+  holds_more s [] x so_far here on = (so_far, here, on)
+  holds_more s (c ∷ cs) x so_far here on = (so_far.0, so_far.1, holds_more (after before turns code s c) cs x so_far.2 here on)
 
-  -- its answer, last
-  pub answers_more : (s : State) (cs : List Call) (i : ℕ) (d x : Call) → i < length cs → x ≡ get_or cs i d → answers_of before turns code s (take (i + 1) cs) ≡ answers_of before turns code s (take i cs) ++ answer_of before turns code (after_all before turns code s (take i cs)) x ∷ []
-  answers_more s cs i d x lt is = rw add-one (answers_go s cs i d x lt is)
+  -- a list carried out, and one call more on a plan that is then safe
+  carried_more :
+      (s : State) (cs : List Call) (x : Call) (answers : List Answer) (a : Answer) (now next : State) →
+      AllCarried before turns code s cs answers now → Carried before turns code now x a next → Safe before next.machines next.jobs →
+      AllCarried before turns code s (cs ++ x ∷ []) (answers ++ a ∷ []) next
+  carried_more s cs x answers a now next all one safe =
+      let ended : next ≡ after before turns code (after_all before turns code s cs) x =
+      one.ended ∙ ap (λ (z : State). after before turns code z x) all.ended in
+      record {
+        answered =
+            ap (λ (l : List Answer). l ++ a ∷ []) all.answered
+            ∙ ap (λ (y : Answer). answers_of before turns code s cs ++ y ∷ []) (one.answered ∙ ap (λ (z : State). answer_of before turns code z x) all.ended)
+            ∙ sym (answers_more s cs x);
+        ended = ended ∙ sym (after_more s cs x);
+        holds =
+            holds_more s cs x all.holds (subst (λ (z : State). Right before turns code z x) all.ended one.right)
+            (subst (λ (z : State). Safe before z.machines z.jobs) ended safe);
+      }
 
-  holds_go :
-      (s : State) (cs : List Call) (i : ℕ) (d x : Call) → i < length cs → x ≡ get_or cs i d →
-      Holds before turns code s (take i cs) →
-      Right before turns code (after_all before turns code s (take i cs)) x →
-      (next : State) → next ≡ after before turns code (after_all before turns code s (take i cs)) x → Safe before next.machines next.jobs →
-      Holds before turns code s (take (suc i) cs)
-  holds_go s [] i d x lt is so_far here next to on = absurd (not-suc-le-zero lt)
-  holds_go s (c ∷ cs) zero d x lt is so_far here next to on = (
-    so_far,
-    subst (λ (y : Call). Right before turns code s y) is here,
-    subst (λ (z : State). Safe before z.machines z.jobs) (to ∙ ap (after before turns code s) is) on,
-  )
-  holds_go s (c ∷ cs) (suc i) d x lt is so_far here next to on =
-      (so_far.0, so_far.1, holds_go (after before turns code s c) cs i d x (le_of_suc-le-suc lt) is so_far.2 here next to on)
-
-  -- it holds of one more, if that call is right and the plan after it is safe
-  pub holds_more :
-      (s : State) (cs : List Call) (i : ℕ) (d x : Call) → i < length cs → x ≡ get_or cs i d →
-      Holds before turns code s (take i cs) →
-      Right before turns code (after_all before turns code s (take i cs)) x →
-      (next : State) → next ≡ after before turns code (after_all before turns code s (take i cs)) x → Safe before next.machines next.jobs →
-      Holds before turns code s (take (i + 1) cs)
-  holds_more s cs i d x lt is so_far here next to on = rw add-one (holds_go s cs i d x lt is so_far here next to on)
+  -- the calls up to an index carried out, and the one at it, whose answer is stored there
+  pub carried_on :
+      (s : State) (cs : List Call) (answers : List Answer) (i : ℕ) (d : Call) (a : Answer) (now next : State) → i < length cs → i < length answers →
+      AllCarried before turns code s (take i cs) (take i answers) now → Carried before turns code now (get_or cs i d) a next → Safe before next.machines next.jobs →
+      AllCarried before turns code s (take (i + 1) cs) (take (i + 1) (set answers i a)) next
+  carried_on s cs answers i d a now next lt room all one safe =
+      rw (take_more cs i d lt, take_more_set answers i a room)
+      (carried_more s (take i cs) (get_or cs i d) (take i answers) a now next all one safe)

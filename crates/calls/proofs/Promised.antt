@@ -25,11 +25,10 @@ use Rattle.planner.specs.Figures.{figures_found}
 use Rattle.planner.specs.Filed.{AdoptMeans, adopt_answer, adopt_plan, refused_with}
 use Rattle.calls.specs.declared.call.Call.{Call}
 use Rattle.calls.specs.declared.call.Call.TheVariants.{Place, Pin as PinCall, Withdraw, Adopt, Figures}
-use Rattle.calls.specs.declared.answer.Answer.{Answer}
-use Rattle.calls.specs.declared.answer.Answer.TheVariants.{Done}
-use Rattle.calls.specs.Said.{said_placed, said_done, said_figures, refusal_number, values}
+use Rattle.calls.specs.declared.answer.Outcome.TheVariants.{Done}
+use Rattle.calls.specs.Said.{Answer, said_placed, said_done, said_figures, refusal_number, values}
 use Rattle.calls.specs.Calls.{State, state, fresh, begin_answer, plan_in, answer_of, after, after_all, answers_of}
-use Rattle.calls.specs.Carrying.{Right, Holds}
+use Rattle.calls.specs.Carrying.{Right, Holds, AllCarried}
 use Rattle.calls.specs.Meanings.{Judged, Placing, Pinning, Withdrawing}
 use Rattle.calls.specs.Promise.{Kept, Promise}
 use Rattle.calls.specs.Turns.{candidates, First}
@@ -196,42 +195,42 @@ module _ (before : Terms → Terms → Bool) (turns : ℕ → List ℕ → List 
   -- the answer to a call stands at its place
   answer_after :
       (s : State) (first : List Call) (c : Call) (rest : List Call) →
-      get_or (answers_of before turns code s (first ++ c ∷ rest)) (length first) Done
+      get_or (answers_of before turns code s (first ++ c ∷ rest)) (length first) (Ok Done)
       ≡ answer_of before turns code (after_all before turns code s first) c
   answer_after s [] c rest = refl
   answer_after s (x ∷ first) c rest = answer_after (after before turns code s x) first c rest
 
-  module _ (m : ℕ) (out : List ℕ) (calls : List Call) (answers : List Answer) (answered : answers ≡ answers_of before turns code (fresh m out) calls) (holds : Holds before turns code (fresh m out) calls) where
+  module _ (m : ℕ) (out : List ℕ) (calls : List Call) (answers : List Answer) (end : State) (all : AllCarried before turns code (fresh m out) calls answers end) where
     abbrev then : List Call → State
     then first = after_all before turns code (fresh m out) first
 
     -- the answer of a call
     told :
         (first : List Call) (c : Call) (rest : List Call) → calls ≡ first ++ c ∷ rest →
-        get_or answers (length first) Done ≡ answer_of before turns code (then first) c
+        get_or answers (length first) (Ok Done) ≡ answer_of before turns code (then first) c
     told first c rest parts =
-        ap (λ (xs : List Answer). get_or xs (length first) Done) (answered ∙ ap (answers_of before turns code (fresh m out)) parts)
+        ap (λ (xs : List Answer). get_or xs (length first) (Ok Done)) (all.answered ∙ ap (answers_of before turns code (fresh m out)) parts)
         ∙ answer_after (fresh m out) first c rest
 
     -- and its number
     numbered :
         (first : List Call) (c : Call) (rest : List Call) → calls ≡ first ++ c ∷ rest →
-        refusal_number (get_or answers (length first) Done) ≡ refusal_number (answer_of before turns code (then first) c)
+        refusal_number (get_or answers (length first) (Ok Done)) ≡ refusal_number (answer_of before turns code (then first) c)
     numbered first c rest parts = ap refusal_number (told first c rest parts)
 
     held_in_parts : (first : List Call) (c : Call) (rest : List Call) → calls ≡ first ++ c ∷ rest → Right before turns code (then first) c
     held_in_parts first c rest parts =
-        right_after (fresh m out) first c rest (subst (λ (cs : List Call). Holds before turns code (fresh m out) cs) parts holds)
+        right_after (fresh m out) first c rest (subst (λ (cs : List Call). Holds before turns code (fresh m out) cs) parts all.holds)
 
     said_adopt : (r : Result (Unit {0}) Refusal) → refused_with r ≡ refusal_number (said_done r)
     said_adopt (Ok u) = refl
     said_adopt (Err e) = refl
 
-    kept_so : Kept before turns code then (λ first. get_or answers (length first) Done) calls
+    kept_so : Kept before turns code then (λ first. get_or answers (length first) (Ok Done)) calls
     kept_so =
         record {
           safe = λ first rest parts.
-              safe_after (fresh m out) first rest (subst (λ (cs : List Call). Holds before turns code (fresh m out) cs) parts holds);
+              safe_after (fresh m out) first rest (subst (λ (cs : List Call). Holds before turns code (fresh m out) cs) parts all.holds);
           judged = λ first d rest parts.
               let s = then first in
               subst (λ (n : ℕ). Judged before s d n) (sym (numbered first (Place d) rest parts))
@@ -246,12 +245,12 @@ module _ (before : Terms → Terms → Bool) (turns : ℕ → List ℕ → List 
               (sym (numbered first (PinCall d p b n) rest parts)) (pinning_so before s d p b n);
           withdrawn = λ first n rest parts.
               let s = then first in
-              let safe = safe_after (fresh m out) first (Withdraw n ∷ rest) (subst (λ (cs : List Call). Holds before turns code (fresh m out) cs) parts holds) in
+              let safe = safe_after (fresh m out) first (Withdraw n ∷ rest) (subst (λ (cs : List Call). Holds before turns code (fresh m out) cs) parts all.holds) in
               subst (λ (k : ℕ). Withdrawing s n k (state s.machines (without n s.jobs) s.out)) (sym (numbered first (Withdraw n) rest parts))
               (withdrawing_so s n safe.plan.arranged.once);
           figured = λ first n rest parts p at is.
               let s = then first in
-              let safe = safe_after (fresh m out) first (Figures n ∷ rest) (subst (λ (cs : List Call). Holds before turns code (fresh m out) cs) parts holds) in
+              let safe = safe_after (fresh m out) first (Figures n ∷ rest) (subst (λ (cs : List Call). Holds before turns code (fresh m out) cs) parts all.holds) in
               let found : find n s.jobs ≡ Some p = ap (λ (k : ℕ). find k s.jobs) (sym is) ∙ found_planned before s.machines s.jobs p safe at in (
                 shown (quiet_figure before s.jobs p),
                 largest_lost before s.jobs p s.machines,
@@ -269,19 +268,12 @@ module _ (before : Terms → Terms → Bool) (turns : ℕ → List ℕ → List 
               refused_same before turns code (then first) c (λ none. refused (numbered first c rest parts ∙ none));
         }
 
-    pub promised : (end : State) → end ≡ after_all before turns code (fresh m out) calls → Promise before turns code m out calls answers end
-    promised end ended = record { answered = answered; ended = ended; kept = kept_so }
+    pub promised : Promise before turns code m out calls answers end
+    promised = record { answered = all.answered; ended = all.ended; kept = kept_so }
 
 -- a count that keeps its limits is one
 pub counted : (m : ℕ) → 2 ≤ m → m ≤ 16 → is_count m ≡ true
 counted m two sixteen = and_from (leb 2 m) (leb m 16) (le-leb 2 m two) (le-leb m 16 sixteen)
-
--- a list with room for its answers is begun
-pub begun : (m calls places : ℕ) → is_count m ≡ true → calls ≤ places → Ok tt ≡ begin_answer m calls places
-begun m calls places count room =
-    sym
-    (ap (λ (t : Bool). cond {A = Result (Unit {0}) Refusal} t (cond (leb calls places) (Ok tt) (Err Short)) (Err MachineCount)) count
-    ∙ ap (λ (t : Bool). cond {A = Result (Unit {0}) Refusal} t (Ok tt) (Err Short)) (le-leb calls places room))
 
 -- a plan just opened has so many machines and no job
 pub opened_fresh :

@@ -1,17 +1,17 @@
 -- What a list of calls does to a plan, and what it answers.
-use Rattle.std.specs.Prelude.{ℕ, ◌+◌, Bool, cond, List, [], ◌∷◌, ◌++◌, take, drop, Ok, Err, Result, nat_le}
+use Rattle.std.specs.Prelude.{ℕ, ◌+◌, Bool, cond, List, [], ◌∷◌, ◌++◌, take, drop, Ok, Err, Result, vec_items, nat_le}
 use Rattle.terms.specs.declared.terms.Terms.{Terms}
 use Rattle.terms.specs.declared.refusal.Refusal.{Refusal}
 use Rattle.terms.specs.declared.refusal.Refusal.TheVariants.{MachineCount, Short}
 use Rattle.rack.specs.declared.placement.Placement.{Placement}
+use Rattle.roster.specs.declared.roster.Roster.{Roster}
 use Rattle.roster.specs.Changes.{without}
 use Rattle.planner.specs.Answers.{is_count, place_answer, place_jobs, pin_answer, pin_jobs, withdraw_answer}
 use Rattle.planner.specs.Figures.{figures_answer}
 use Rattle.planner.specs.Filed.{adopt_answer, adopt_plan, write_answer, write_bytes}
 use Rattle.calls.specs.declared.call.Call.{Call}
 use Rattle.calls.specs.declared.call.Call.TheVariants.{Place, Pin, Withdraw, Adopt, Figures, Write}
-use Rattle.calls.specs.declared.answer.Answer.{Answer}
-use Rattle.calls.specs.Said.{said_placed, said_done, said_figures, said_written}
+use Rattle.calls.specs.Said.{Answer, said_placed, said_done, said_figures, said_written}
 
 -- a plan's machine count and jobs, and the output that the list was given
 pub record State : Type 0 where
@@ -21,6 +21,10 @@ pub record State : Type 0 where
 
 abbrev pub state : ℕ → List Placement → List ℕ → State
 state m ps out = record { machines = m; jobs = ps; out = out }
+
+-- a roster's, with that output
+abbrev pub state_of : Roster → List ℕ → State
+state_of roster out = state roster.machines (vec_items roster.placements) out
 
 -- its machine count and jobs
 abbrev pub plan_in : State → ℕ × List Placement

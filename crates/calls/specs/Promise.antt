@@ -1,5 +1,5 @@
 -- What is promised of any list of calls to a plan just opened, refused ones included.
-use Rattle.std.specs.Prelude.{◌≡◌, ℕ, Bool, List, [], ◌∷◌, ◌++◌, length, ◌≢◌, slice_index_or}
+use Rattle.std.specs.Prelude.{◌≡◌, ℕ, Bool, List, [], ◌∷◌, ◌++◌, length, ◌≢◌, Ok, slice_index_or}
 use Rattle.std.specs.Borrow.{Bor}
 use Rattle.terms.specs.declared.draft.Draft.{Draft}
 use Rattle.terms.specs.declared.terms.Terms.{Terms}
@@ -11,9 +11,8 @@ use Rattle.planner.specs.Answers.{status_number}
 use Rattle.planner.specs.Filed.{AdoptMeans}
 use Rattle.calls.specs.declared.call.Call.{Call}
 use Rattle.calls.specs.declared.call.Call.TheVariants.{Place, Pin, Withdraw, Adopt, Figures}
-use Rattle.calls.specs.declared.answer.Answer.{Answer}
-use Rattle.calls.specs.declared.answer.Answer.TheVariants.{Done}
-use Rattle.calls.specs.Said.{refusal_number, values}
+use Rattle.calls.specs.declared.answer.Outcome.TheVariants.{Done}
+use Rattle.calls.specs.Said.{Answer, refusal_number, values}
 use Rattle.calls.specs.Calls.{State, fresh, plan_in, after, after_all, answers_of}
 use Rattle.calls.specs.Meanings.{Judged, Placing, Pinning, Withdrawing, Figured}
 
@@ -65,4 +64,4 @@ pub record Promise (before : Terms → Terms → Bool) (turns : ℕ → List ℕ
   -- and of these the promise is kept
   pub kept :
       Kept before turns code (λ first. after_all before turns code (fresh m out) first)
-      (λ first. slice_index_or answers (length first) Done) calls
+      (λ first. slice_index_or answers (length first) (Ok Done)) calls

@@ -1,13 +1,11 @@
-ghost use Rattle.std.specs.Prelude.{◌≡◌, ◌≤◌, true, [], length, take, drop, if◌then◌else◌, MatchResult};
+ghost use Rattle.std.specs.Prelude.{◌≡◌, length, take, drop, MatchResult};
 ghost use Rattle.rack.specs.Test.{Passes};
-ghost use Rattle.plantest.specs.Verdicts.{Safe};
-ghost use Rattle.planner.specs.Answers.{is_count, open_answer};
 ghost use Rattle.planner.specs.Filed.{write_answer, write_bytes};
-ghost use Rattle.calls.specs.Calls.{after, after_all, answer_of, answers_of, begin_answer, space_at, state, with_space};
-ghost use Rattle.calls.specs.Carrying.{Holds, Right};
+ghost use Rattle.calls.specs.Calls.{begin_answer, space_at, state_of, with_space};
+ghost use Rattle.calls.specs.Carrying.{AllCarried, Carried};
 ghost use Rattle.calls.specs.Promise.{Promise};
 
-use crate::answer::{Answer, say_done, say_figures, say_placed, say_written};
+use crate::answer::{Answer, Outcome};
 use crate::call::Call;
 use orders::SearchOrder;
 use planner::Plan;
@@ -35,75 +33,47 @@ fn carry_one<R: Precedence + Drop, O: SearchOrder + Drop>(
     call: &Call,
     out: &mut [u8],
 ) -> Answer
-    ensures answer { result ≡ answer_of (R.Precedence.before plan.old.rule) (O.SearchOrder.turns plan.old.order) R.Precedence.code (state plan.old.roster.machines plan.old.roster.placements.items out.old) call.now }
-    ensures after { state plan.new.roster.machines plan.new.roster.placements.items out.new ≡ after (R.Precedence.before plan.old.rule) (O.SearchOrder.turns plan.old.order) R.Precedence.code (state plan.old.roster.machines plan.old.roster.placements.items out.old) call.now }
+    ensures carried { Carried (R.Precedence.before plan.old.rule) (O.SearchOrder.turns plan.old.order) R.Precedence.code (state_of plan.old.roster out.old) call.now result (state_of plan.new.roster out.new) }
     ensures same { (plan.new.rule ≡ plan.old.rule) × (plan.new.order ≡ plan.old.order) }
-    ensures keeps { Passes (R.Precedence.before plan.old.rule) plan.old.roster.machines plan.old.roster.placements.items → Passes (R.Precedence.before plan.old.rule) plan.new.roster.machines plan.new.roster.placements.items }
-    ensures right { Right (R.Precedence.before plan.old.rule) (O.SearchOrder.turns plan.old.order) R.Precedence.code (state plan.old.roster.machines plan.old.roster.placements.items out.old) call.now }
 {
     match call {
-        Call::Place(draft) => say_placed(plan.place(*draft)),
+        Call::Place(draft) => plan.place(*draft).map(|(primary, standby, status)| Outcome::Placed(
+            primary, standby, status,
+        )),
         Call::Pin {
             draft,
             primary,
             standby,
             status,
-        } => say_done(plan.pin(*draft, *primary, *standby, *status)),
-        Call::Withdraw(number) => say_done(plan.withdraw(*number)),
-        Call::Adopt(bytes) => say_done(plan.adopt(bytes)),
-        Call::Figures(number) => say_figures(plan.figures(*number)),
-        Call::Write { start, size } => say_written(write_at(plan, *start, *size, out)),
+        } => plan
+            .pin(*draft, *primary, *standby, *status)
+            .map(|_| Outcome::Done),
+        Call::Withdraw(number) => plan.withdraw(*number).map(|_| Outcome::Done),
+        Call::Adopt(bytes) => plan.adopt(bytes).map(|_| Outcome::Done),
+        Call::Figures(number) => plan.figures(*number).map(|(
+            quiet,
+            largest,
+            standby,
+        )| Outcome::Figures(quiet, largest, standby)),
+        Call::Write { start, size } => write_at(plan, *start, *size, out).map(Outcome::Written),
     }
 }
 
-// Carries out one call on a plan that is safe: so is the plan after it.
-fn carry_next<R: Precedence + Drop, O: SearchOrder + Drop>(
-    plan: &mut Plan<R, O>,
-    call: &Call,
-    out: &mut [u8],
-) -> Answer
-    requires { Safe (R.Precedence.before plan.old.rule) plan.old.roster.machines plan.old.roster.placements.items }
-    ensures answer { result ≡ answer_of (R.Precedence.before plan.old.rule) (O.SearchOrder.turns plan.old.order) R.Precedence.code (state plan.old.roster.machines plan.old.roster.placements.items out.old) call.now }
-    ensures after { state plan.new.roster.machines plan.new.roster.placements.items out.new ≡ after (R.Precedence.before plan.old.rule) (O.SearchOrder.turns plan.old.order) R.Precedence.code (state plan.old.roster.machines plan.old.roster.placements.items out.old) call.now }
-    ensures same { (plan.new.rule ≡ plan.old.rule) × (plan.new.order ≡ plan.old.order) }
-    ensures safe { Safe (R.Precedence.before plan.old.rule) plan.new.roster.machines plan.new.roster.placements.items }
-    ensures right { Right (R.Precedence.before plan.old.rule) (O.SearchOrder.turns plan.old.order) R.Precedence.code (state plan.old.roster.machines plan.old.roster.placements.items out.old) call.now }
-{
-    carry_one(plan, call, out)
-}
-
-// Carries out every call, refused ones too. Places for answers after those stay as they are.
+// Carries out every call, refused ones too.
 fn carry_all<R: Precedence + Drop, O: SearchOrder + Drop>(
     plan: &mut Plan<R, O>,
     calls: &[Call],
     out: &mut [u8],
     answers: &mut [Answer],
 )
-    requires room { length calls.now ≤ length answers.old }
-    requires safe { Safe (R.Precedence.before plan.old.rule) plan.old.roster.machines plan.old.roster.placements.items }
-    ensures answers { take (length calls.now) answers.new ≡ answers_of (R.Precedence.before plan.old.rule) (O.SearchOrder.turns plan.old.order) R.Precedence.code (state plan.old.roster.machines plan.old.roster.placements.items out.old) calls.now }
-    ensures later { drop (length calls.now) answers.new ≡ drop (length calls.now) answers.old }
-    ensures after { state plan.new.roster.machines plan.new.roster.placements.items out.new ≡ after_all (R.Precedence.before plan.old.rule) (O.SearchOrder.turns plan.old.order) R.Precedence.code (state plan.old.roster.machines plan.old.roster.placements.items out.old) calls.now }
+    requires room { length answers.old ≡ length calls.now }
+    requires passes { Passes (R.Precedence.before plan.old.rule) plan.old.roster.machines plan.old.roster.placements.items }
+    ensures carried { AllCarried (R.Precedence.before plan.old.rule) (O.SearchOrder.turns plan.old.order) R.Precedence.code (state_of plan.old.roster out.old) calls.now answers.new (state_of plan.new.roster out.new) }
     ensures same { (plan.new.rule ≡ plan.old.rule) × (plan.new.order ≡ plan.old.order) }
-    ensures holds { Holds (R.Precedence.before plan.old.rule) (O.SearchOrder.turns plan.old.order) R.Precedence.code (state plan.old.roster.machines plan.old.roster.placements.items out.old) calls.now }
 {
-    for i in 0..calls.len() {
-        answers[i] = carry_next(plan, &calls[i], out);
+    for (i, call) in calls.iter().enumerate() {
+        answers[i] = carry_one(plan, call, out);
     }
-}
-
-// Opens the plan for a list of calls. Without jobs it is safe.
-fn begin<R: Precedence + Drop, O: SearchOrder + Drop>(
-    plan: &mut Plan<R, O>,
-    machines: u32,
-) -> Result<(), Refusal>
-    ensures answer { result ≡ open_answer machines }
-    ensures machines { plan.new.roster.machines ≡ (if is_count machines then machines else plan.old.roster.machines) }
-    ensures jobs { plan.new.roster.placements.items ≡ (if is_count machines then [] else plan.old.roster.placements.items) }
-    ensures same { (plan.new.rule ≡ plan.old.rule) × (plan.new.order ≡ plan.old.order) }
-    ensures safe { is_count machines ≡ true → Safe (R.Precedence.before plan.old.rule) plan.new.roster.machines plan.new.roster.placements.items }
-{
-    plan.open(machines)
 }
 
 // Opens the plan with so many machines and carries out every call of the list, refused ones too; call i is answered in
@@ -117,17 +87,17 @@ pub fn carry_out<R: Precedence + Drop, O: SearchOrder + Drop>(
     answers: &mut [Answer],
 ) -> Result<(), Refusal>
     ensures answer { result ≡ begin_answer machines (length calls.now) (length answers.old) }
-    ensures promise { MatchResult result (λ _. Promise (R.Precedence.before plan.old.rule) (O.SearchOrder.turns plan.old.order) R.Precedence.code machines out.old calls.now (take (length calls.now) answers.new) (state plan.new.roster.machines plan.new.roster.placements.items out.new)) (λ _. state plan.new.roster.machines plan.new.roster.placements.items out.new ≡ state plan.old.roster.machines plan.old.roster.placements.items out.old) }
+    ensures promise { MatchResult result (λ _. Promise (R.Precedence.before plan.old.rule) (O.SearchOrder.turns plan.old.order) R.Precedence.code machines out.old calls.now (take (length calls.now) answers.new) (state_of plan.new.roster out.new)) (λ _. state_of plan.new.roster out.new ≡ state_of plan.old.roster out.old) }
     ensures later { MatchResult result (λ _. drop (length calls.now) answers.new ≡ drop (length calls.now) answers.old) (λ _. answers.new ≡ answers.old) }
     ensures same { (plan.new.rule ≡ plan.old.rule) × (plan.new.order ≡ plan.old.order) }
 {
-    if machines < 2 || machines > 16 {
+    if !(2..=16).contains(&machines) {
         return Err(Refusal::MachineCount);
     }
     if answers.len() < calls.len() {
         return Err(Refusal::Short);
     }
-    let _ = begin(plan, machines);
-    carry_all(plan, calls, out, answers);
+    plan.open(machines)?;
+    carry_all(plan, calls, out, &mut answers[..calls.len()]);
     Ok(())
 }

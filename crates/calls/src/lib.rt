@@ -6,6 +6,6 @@ mod answer;
 mod call;
 mod carry;
 
-pub use answer::Answer;
+pub use answer::{Answer, Outcome, refusal_number};
 pub use call::Call;
 pub use carry::carry_out;

@@ -25,8 +25,7 @@ use Rattle.planner.specs.Filed.{refused_with, adopt_answer, adopt_plan, write_an
 use Rattle.pairs.specs.Pairs.{pair_machines}
 use Rattle.filewriter.specs.Written.{file_length}
 use Rattle.calls.specs.declared.call.Call.{Call}
-use Rattle.calls.specs.declared.answer.Answer.{Answer}
-use Rattle.calls.specs.Said.{refusal_number, values}
+use Rattle.calls.specs.Said.{Answer, refusal_number, values}
 use Rattle.calls.specs.Calls.{fresh, answers_of}
 use Rattle.cases.specs.Shortcuts.{short_passes, no_lateness_figure, strictly_before}
 

@@ -1,5 +1,5 @@
 // Step 6: a plan travels as a file. Two lists of calls are carried out, and every answer is told.
-use calls::{Answer, Call, carry_out};
+use calls::{Answer, Call, Outcome, carry_out};
 use orders::Ascending;
 use planner::Plan;
 use precedence::Deadline;
@@ -27,18 +27,18 @@ const ELEVEN: Draft = Draft {
 
 fn tell_answer(rt: &HostRuntime, call: &str, answer: Answer) -> io::Result<()> {
     match answer {
-        Answer::Placed(primary, standby, Status::Passive) => println!(rt;
+        Ok(Outcome::Placed(primary, standby, Status::Passive)) => println!(rt;
             "  {call}: primary on machine {primary}, standby asleep on machine {standby}"
         ),
-        Answer::Placed(primary, standby, Status::Active) => println!(rt;
+        Ok(Outcome::Placed(primary, standby, Status::Active)) => println!(rt;
             "  {call}: primary on machine {primary}, standby running along on machine {standby}"
         ),
-        Answer::Done => println!(rt; "  {call}: done"),
-        Answer::Figures(quiet, lost, standby) => println!(rt;
+        Ok(Outcome::Done) => println!(rt; "  {call}: done"),
+        Ok(Outcome::Figures(quiet, lost, standby)) => println!(rt;
             "  {call}: quiet {quiet}, at most {lost} when another machine stops, standby {standby}"
         ),
-        Answer::Written(length) => println!(rt; "  {call}: {length} bytes"),
-        Answer::Refused(refusal) => {
+        Ok(Outcome::Written(length)) => println!(rt; "  {call}: {length} bytes"),
+        Err(refusal) => {
             let no = refusal.number();
             println!(rt; "  {call}: refused with {no}")
         }
@@ -73,9 +73,9 @@ fn tell_first(
         Call::Write { start: 0, size: 28 },
         Call::Write { start: 0, size: 64 },
     ];
-    let mut answers = [Answer::Done; 5];
+    let mut answers = [Ok(Outcome::Done); 5];
     if let Err(refusal) = carry_out(plan, 2, &calls, &mut out, &mut answers) {
-        tell_answer(rt, "the list", Answer::Refused(refusal))?;
+        tell_answer(rt, "the list", Err(refusal))?;
     }
     tell_answer(rt, "adopt an empty file", answers[0])?;
     tell_answer(rt, "place job 10", answers[1])?;
@@ -99,9 +99,9 @@ fn tell_second<'x>(
         Call::Figures(11),
         Call::Figures(10),
     ];
-    let mut answers = [Answer::Done; 6];
+    let mut answers = [Ok(Outcome::Done); 6];
     if let Err(refusal) = carry_out(plan, 3, &calls, &mut [], &mut answers) {
-        tell_answer(rt, "the list", Answer::Refused(refusal))?;
+        tell_answer(rt, "the list", Err(refusal))?;
     }
     tell_answer(rt, "place job 11", answers[0])?;
     tell_answer(rt, "adopt the damaged file", answers[1])?;
