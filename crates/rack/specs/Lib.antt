@@ -1,3 +1,4 @@
+pub mod StatusNumbers
 pub mod Plan
 pub mod Day
 pub mod Run

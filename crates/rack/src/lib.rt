@@ -3,5 +3,7 @@
 #![tactic(auto)]
 
 mod placement;
+mod status;
 
 pub use placement::{Placement, Status};
+pub use status::UnknownStatus;

@@ -3,14 +3,12 @@ use terms::Terms;
 // What a standby does while nothing has stopped: it sleeps, or it runs along.
 #[derive(Clone, Copy, PartialEq, Eq, Debug)]
 pub enum Status {
-    // 0
-    Passive,
-    // 1
-    Active,
+    Passive = 0,
+    Active = 1,
 }
 
 // A job and the two machines of its copies.
-#[derive(Clone, Copy)]
+#[derive(Clone, Copy, PartialEq, Eq, Debug)]
 pub struct Placement {
     pub terms: Terms,
     pub primary: u8,

@@ -1,5 +1,5 @@
 // The numbers of a job as a caller hands them over, not yet judged.
-#[derive(Clone, Copy)]
+#[derive(Clone, Copy, PartialEq, Eq, Debug)]
 pub struct Draft {
     pub number: u32,
     pub period: u32,

@@ -1,7 +1,7 @@
 ghost use Rattle.std.specs.Prelude.{◌≡◌, ◌+◌, ◌≤◌};
 
 // A job's terms: its number and five tick counts. The limits hold of every value of this type.
-#[derive(Clone, Copy)]
+#[derive(Clone, Copy, PartialEq, Eq, Debug)]
 pub struct Terms {
     // 1 to 65,535
     pub(crate) number: u32,
