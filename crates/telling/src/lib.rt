@@ -1,10 +1,10 @@
-// How the programs word what a plan answers to a call. Knows placements and refusals; knows no plan.
+// How the programs word what a plan answers. Knows placements and refusals; knows no plan.
 #![tactic(auto)]
 
+mod answer;
 mod figured;
 mod standing;
-mod tell;
 
+pub use answer::{tell, tell_figures, tell_place, tell_withdraw};
 pub use figured::Figured;
 pub use standing::Standing;
-pub use tell::tell;
