@@ -1,9 +1,9 @@
 // Full plan tests of 96 jobs on 16 machines.
+use crate::timing::{tell_time, timed};
 use plantest::{Verdict, check_plan};
 use precedence::Deadline;
 use rack::{Placement, Status};
 use std::alloc::{AllocError, Global};
-use std::time::Instant;
 use terms::{Draft, Terms};
 
 // Job i of the rack: primaries spread over all machines, every third standby active.
@@ -23,31 +23,19 @@ fn placement(i: u8) -> Option<Placement> {
     } else {
         Status::Passive
     };
-    match Terms::new(draft) {
-        Ok(terms) => Some(Placement {
-            terms,
-            primary: i % 16,
-            standby: (i % 16 + 1 + i / 16) % 16,
-            status,
-        }),
-        Err(_) => None,
-    }
+    Some(Placement {
+        terms: Terms::new(draft).ok()?,
+        primary: i % 16,
+        standby: (i % 16 + 1 + i / 16) % 16,
+        status,
+    })
 }
 
-fn full_rack(heap: Global) -> Result<Vec<Placement>, AllocError> {
-    let mut plan = Vec::new(heap);
-    for i in 0..96 {
-        if let Some(p) = placement(i) {
-            plan.push(p)?;
-        }
-    }
-    Ok(plan)
-}
-
-fn passing(heap: Global, plan: &[Placement], times: u32) -> Result<u32, AllocError> {
-    let mut passed = 0u32;
+// How many of so many tests of the plan pass.
+fn passing(heap: Global, plan: &[Placement], times: u32) -> Result<usize, AllocError> {
+    let mut passed = 0usize;
     for _ in 0..times {
-        if let Verdict::Passing = check_plan(heap, &Deadline, 16, plan)? {
+        if check_plan(heap, &Deadline, 16, plan)? == Verdict::Passing {
             passed = passed.saturating_add(1);
         }
     }
@@ -55,15 +43,9 @@ fn passing(heap: Global, plan: &[Placement], times: u32) -> Result<u32, AllocErr
 }
 
 pub fn tell(rt: &HostRuntime, times: u32) -> anyhow::Result<()> {
-    let plan = full_rack(rt.alloc())?;
+    let plan: Vec<Placement> = (0..96).filter_map(placement).collect(rt.alloc())?;
     let jobs = plan.len();
-    let start = Instant::now(rt)?;
-    let passed = passing(rt.alloc(), plan.as_slice(), times)?;
-    let spent = start.elapsed(rt)?;
+    let (passed, spent) = timed(rt, || Ok(passing(rt.alloc(), plan.as_slice(), times)?))?;
     println!(rt; "{times} full tests of {jobs} jobs on 16 machines, {passed} passed")?;
-    if times > 1 {
-        let millis = spent.as_millis();
-        println!(rt; "{millis} ms")?;
-    }
-    Ok(())
+    tell_time(rt, times, spent)
 }

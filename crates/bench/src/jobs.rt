@@ -1,4 +1,5 @@
 // Two lists of 96 jobs.
+use std::array;
 use terms::Draft;
 
 // Job i: about a tenth of a machine, with some lateness.
@@ -16,11 +17,7 @@ fn alike_job(i: u32) -> Draft {
 }
 
 pub fn alike() -> [Draft; 96] {
-    let mut jobs = [alike_job(0); 96];
-    for i in 0..96 {
-        jobs[i] = alike_job(i as u32);
-    }
-    jobs
+    array::from_fn(|i| alike_job(i as u32))
 }
 
 // The next number of a fixed linear congruential sequence.
@@ -46,12 +43,12 @@ fn varied_job(i: u32, draws: [u32; 4]) -> Draft {
 pub fn varied() -> [Draft; 96] {
     let mut jobs = [alike_job(0); 96];
     let mut last = 1;
-    for i in 0..96 {
+    for (i, job) in jobs.iter_mut().enumerate() {
         let a = drawn(last);
         let b = drawn(a);
         let c = drawn(b);
         let d = drawn(c);
-        jobs[i] = varied_job(i as u32, [a, b, c, d]);
+        *job = varied_job(i as u32, [a, b, c, d]);
         last = d;
     }
     jobs

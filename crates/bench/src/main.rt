@@ -5,21 +5,24 @@
 mod filling;
 mod fulltest;
 mod jobs;
+mod timing;
 
 use std::env;
 
+// The number that is given, or 1.
 fn rounds(rt: &HostRuntime) -> anyhow::Result<u32> {
-    match env::args(rt)?.nth(1) {
-        None => Ok(1),
-        Some(text) => Ok(text.as_str().parse::<u32>()?),
-    }
+    let Some(text) = env::args(rt)?.nth(1) else {
+        return Ok(1);
+    };
+    Ok(text.as_str().parse::<u32>()?)
 }
 
 fn is_varied(rt: &HostRuntime) -> anyhow::Result<bool> {
-    match env::args(rt)?.nth(2) {
-        None => Ok(false),
-        Some(text) => Ok(text.as_str() == "varied"),
-    }
+    Ok(
+        env::args(rt)?
+            .nth(2)
+            .is_some_and(|text| text.as_str() == "varied"),
+    )
 }
 
 fn main(rt: HostRuntime) -> anyhow::Result<()> {

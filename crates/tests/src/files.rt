@@ -4,18 +4,20 @@ use planner::Plan;
 use precedence::Deadline;
 use std::alloc::{AllocError, Global};
 use std::test::Fail;
-use terms::Draft;
+use terms::{Draft, Refusal};
 
 // Two machines, and one job: number 10, period and deadline 10, runs 4 and 4, no lateness; pair 0, passive.
 const SOUND: [u8; 29] = [
     1, 1, 2, 2, 0, 10, 0, 0, 0, 10, 0, 0, 0, 10, 0, 0, 0, 4, 0, 0, 0, 4, 0, 0, 0, 0, 0, 0, 9,
 ];
 
+// The number that a call is refused with, 0 where it is not refused.
+fn refused_with<T: Drop>(answer: Result<T, Refusal>) -> u8 {
+    answer.err().map_or(0, |refusal| refusal.number())
+}
+
 fn adopted(plan: &mut Plan<Deadline, Ascending>, bytes: &[u8]) -> u8 {
-    match plan.adopt(bytes) {
-        Ok(()) => 0,
-        Err(refusal) => refusal.number(),
-    }
+    refused_with(plan.adopt(bytes))
 }
 
 fn damaged(plan: &mut Plan<Deadline, Ascending>, at: usize, byte: u8) -> u8 {
@@ -30,8 +32,7 @@ fn damaged(plan: &mut Plan<Deadline, Ascending>, at: usize, byte: u8) -> u8 {
 fn cut_short_or_lengthened(rt: HostRuntime) -> Result<(), Fail> {
     let mut plan = Plan::new(rt.alloc(), Deadline, Ascending)?;
     for length in 0..29 {
-        let (part, _) = SOUND.split_at(length);
-        assert_eq!(rt; adopted(&mut plan, part), 8);
+        assert_eq!(rt; adopted(&mut plan, &SOUND[..length]), 8);
     }
     assert_eq!(rt; adopted(&mut plan, &SOUND), 0);
     let mut longer = SOUND.to_vec(rt.alloc())?;
@@ -128,10 +129,7 @@ fn placed(plan: &mut Plan<Deadline, Ascending>, number: u32, run: u32) -> u8 {
         standby: 1,
         lateness: 0,
     };
-    match plan.place(draft) {
-        Ok(_) => 0,
-        Err(refusal) => refusal.number(),
-    }
+    refused_with(plan.place(draft))
 }
 
 #[test]

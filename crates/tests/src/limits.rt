@@ -1,5 +1,5 @@
 // Each limit on a job's numbers: met, reached, passed by one, and far past.
-use terms::{Draft, Terms};
+use terms::{Draft, Refusal, Terms};
 
 const SOUND: Draft = Draft {
     number: 10,
@@ -11,10 +11,7 @@ const SOUND: Draft = Draft {
 };
 
 fn lawful(draft: Draft) -> bool {
-    match Terms::new(draft) {
-        Ok(_) => true,
-        Err(refusal) => refusal.number() != 2,
-    }
+    Terms::new(draft).err() != Some(Refusal::Limits)
 }
 
 #[test]

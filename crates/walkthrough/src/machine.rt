@@ -1,40 +1,31 @@
 // Step 2: a machine's job table, and how long each copy can be held off.
 use figures::{JobCopy, Role, figure, window};
 use precedence::Deadline;
-use std::alloc::{AllocError, Global};
 use std::io;
 use terms::{Draft, Terms};
 
-// The primaries of those of the drafts that are lawful.
-fn primaries(heap: Global, drafts: &[Draft]) -> Result<Vec<JobCopy>, AllocError> {
-    let mut set = Vec::new(heap);
-    for draft in drafts {
-        if let Ok(terms) = Terms::new(*draft) {
-            let lateness = terms.lateness();
-            set.push(JobCopy {
-                terms,
-                role: Role::Primary,
-                lateness,
-            })?;
-        }
-    }
-    Ok(set)
+// The job's primary, if its terms are lawful.
+fn primary(draft: &Draft) -> Option<JobCopy> {
+    let terms = Terms::new(*draft).ok()?;
+    Some(JobCopy {
+        terms,
+        role: Role::Primary,
+        lateness: terms.lateness(),
+    })
 }
 
 fn tell_copy(rt: &HostRuntime, set: &[JobCopy], own: &JobCopy) -> io::Result<()> {
     let number = own.terms.number();
     let deadline = own.terms.deadline();
-    match (window(&Deadline, set, own), figure(&Deadline, set, own)) {
-        (Some(x), Some(f)) => {
-            let lateness = own.lateness;
-            println!(rt;
-                "  job {number}: window {x}, and lateness {lateness} makes figure {f}; due after {deadline}: in time"
-            )
-        }
-        _ => println!(rt;
+    let (Some(x), Some(f)) = (window(&Deadline, set, own), figure(&Deadline, set, own)) else {
+        return println!(rt;
             "  job {number}: no window ends within its deadline {deadline}: not in time"
-        ),
-    }
+        );
+    };
+    let lateness = own.lateness;
+    println!(rt;
+        "  job {number}: window {x}, and lateness {lateness} makes figure {f}; due after {deadline}: in time"
+    )
 }
 
 pub fn tell(rt: &HostRuntime) -> io::Result<()> {
@@ -65,8 +56,8 @@ pub fn tell(rt: &HostRuntime) -> io::Result<()> {
             lateness: 2,
         },
     ];
-    let set = primaries(rt.alloc(), &drafts)?;
-    for own in set.iter() {
+    let set: Vec<JobCopy> = drafts.iter().filter_map(primary).collect(rt.alloc())?;
+    for own in &set {
         tell_copy(rt, set.as_slice(), own)?;
     }
     println!(rt;

@@ -2,59 +2,9 @@
 use orders::Ascending;
 use planner::Plan;
 use precedence::Deadline;
-use rack::Status;
 use std::io;
+use telling::{tell_figures, tell_place, tell_withdraw};
 use terms::Draft;
-
-fn tell_place(
-    rt: &HostRuntime,
-    plan: &mut Plan<Deadline, Ascending>,
-    draft: Draft,
-) -> io::Result<()> {
-    let number = draft.number;
-    match plan.place(draft) {
-        Ok((primary, standby, Status::Passive)) => println!(rt;
-            "  place job {number}: primary on machine {primary}, standby asleep on machine {standby}"
-        ),
-        Ok((primary, standby, Status::Active)) => println!(rt;
-            "  place job {number}: primary on machine {primary}, standby running along on machine {standby}"
-        ),
-        Err(refusal) => {
-            let no = refusal.number();
-            println!(rt; "  place job {number}: refused with {no}")
-        }
-    }
-}
-
-fn tell_figures(
-    rt: &HostRuntime,
-    plan: &mut Plan<Deadline, Ascending>,
-    number: u32,
-) -> io::Result<()> {
-    match plan.figures(number) {
-        Ok((quiet, lost, standby)) => println!(rt;
-            "  figures of job {number}: quiet {quiet}, at most {lost} when another machine stops, standby {standby}"
-        ),
-        Err(refusal) => {
-            let no = refusal.number();
-            println!(rt; "  figures of job {number}: refused with {no}")
-        }
-    }
-}
-
-fn tell_withdraw(
-    rt: &HostRuntime,
-    plan: &mut Plan<Deadline, Ascending>,
-    number: u32,
-) -> io::Result<()> {
-    match plan.withdraw(number) {
-        Ok(()) => println!(rt; "  withdraw job {number}: done; no other placement changes"),
-        Err(refusal) => {
-            let no = refusal.number();
-            println!(rt; "  withdraw job {number}: refused with {no}")
-        }
-    }
-}
 
 pub fn tell(rt: &HostRuntime) -> io::Result<()> {
     println!(rt;
@@ -70,15 +20,15 @@ pub fn tell(rt: &HostRuntime) -> io::Result<()> {
         lateness: 0,
     };
     let eleven = Draft { number: 11, ..ten };
-    tell_place(rt, &mut plan, ten)?;
-    tell_figures(rt, &mut plan, 10)?;
-    tell_place(rt, &mut plan, ten)?;
+    tell_place(rt, ten.number, plan.place(ten))?;
+    tell_figures(rt, 10, plan.figures(10))?;
+    tell_place(rt, ten.number, plan.place(ten))?;
     println!(rt; "  Refusal 3: that number is planned already.")?;
-    tell_place(rt, &mut plan, eleven)?;
+    tell_place(rt, eleven.number, plan.place(eleven))?;
     println!(rt;
         "  Refusal 5: no choice of two machines and a status passes, and none would beside more jobs either."
     )?;
-    tell_withdraw(rt, &mut plan, 10)?;
-    tell_place(rt, &mut plan, eleven)?;
-    tell_figures(rt, &mut plan, 11)
+    tell_withdraw(rt, 10, plan.withdraw(10))?;
+    tell_place(rt, eleven.number, plan.place(eleven))?;
+    tell_figures(rt, 11, plan.figures(11))
 }

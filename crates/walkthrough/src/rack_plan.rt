@@ -2,33 +2,9 @@
 use plantest::{Verdict, check_plan};
 use precedence::Deadline;
 use rack::{Placement, Status};
-use std::alloc::{AllocError, Global};
 use std::io;
+use telling::Standing;
 use terms::{Draft, Terms};
-
-// A draft with the two machines and the status that it is to have.
-#[derive(Clone, Copy)]
-struct Wish {
-    draft: Draft,
-    primary: u8,
-    standby: u8,
-    status: Status,
-}
-
-fn placements(heap: Global, wishes: &[Wish]) -> Result<Vec<Placement>, AllocError> {
-    let mut plan = Vec::new(heap);
-    for wish in wishes {
-        if let Ok(terms) = Terms::new(wish.draft) {
-            plan.push(Placement {
-                terms,
-                primary: wish.primary,
-                standby: wish.standby,
-                status: wish.status,
-            })?;
-        }
-    }
-    Ok(plan)
-}
 
 fn tell_verdict(rt: &HostRuntime, plan: &[Placement]) -> io::Result<()> {
     match check_plan(rt.alloc(), &Deadline, 3, plan)? {
@@ -45,16 +21,8 @@ fn tell_verdict(rt: &HostRuntime, plan: &[Placement]) -> io::Result<()> {
 fn tell_roles(rt: &HostRuntime, plan: &[Placement]) -> io::Result<()> {
     for p in plan {
         let number = p.terms.number();
-        let primary = p.primary;
-        let standby = p.standby;
-        match p.status {
-            Status::Passive => println!(rt;
-                "  job {number}: primary on machine {primary}, standby asleep on machine {standby}"
-            )?,
-            Status::Active => println!(rt;
-                "  job {number}: primary on machine {primary}, standby running along on machine {standby}"
-            )?,
-        }
+        let standing = Standing::from(*p);
+        println!(rt; "  job {number}: {standing}")?;
     }
     Ok(())
 }
@@ -64,20 +32,27 @@ fn tell_stop(rt: &HostRuntime, plan: &[Placement], f: u8) -> io::Result<()> {
     println!(rt; "  Machine {f} stops:")?;
     for p in plan {
         let number = p.terms.number();
-        let primary = p.primary;
-        let standby = p.standby;
-        if primary != f {
-            println!(rt; "    job {number}: its primary on machine {primary} serves")?;
-        } else if let Status::Active = p.status {
-            println!(rt; "    job {number}: its standby on machine {standby} goes on and serves")?;
-        } else {
-            println!(rt; "    job {number}: its standby on machine {standby} wakes and serves")?;
+        let Placement {
+            primary,
+            standby,
+            ..
+        } = *p;
+        match p.status {
+            _ if primary != f => println!(rt;
+                "    job {number}: its primary on machine {primary} serves"
+            )?,
+            Status::Active => println!(rt;
+                "    job {number}: its standby on machine {standby} goes on and serves"
+            )?,
+            Status::Passive => println!(rt;
+                "    job {number}: its standby on machine {standby} wakes and serves"
+            )?,
         }
     }
     Ok(())
 }
 
-// A job of period 20, on its two machines.
+// A job of period 20, on its two machines, if its terms are lawful.
 fn job_on(
     number: u32,
     deadline: u32,
@@ -85,7 +60,7 @@ fn job_on(
     standby_run: u32,
     machines: (u8, u8),
     status: Status,
-) -> Wish {
+) -> Option<Placement> {
     let draft = Draft {
         number,
         period: 20,
@@ -94,16 +69,17 @@ fn job_on(
         standby: standby_run,
         lateness: 0,
     };
-    Wish {
-        draft,
-        primary: machines.0,
-        standby: machines.1,
+    let (primary, standby) = machines;
+    Some(Placement {
+        terms: Terms::new(draft).ok()?,
+        primary,
+        standby,
         status,
-    }
+    })
 }
 
 // Three jobs, the third with this deadline.
-fn wishes(deadline: u32) -> [Wish; 3] {
+fn jobs(deadline: u32) -> [Option<Placement>; 3] {
     [
         job_on(1, 8, 2, 4, (2, 0), Status::Passive),
         job_on(2, 9, 4, 4, (1, 0), Status::Active),
@@ -113,7 +89,7 @@ fn wishes(deadline: u32) -> [Wish; 3] {
 
 pub fn tell(rt: &HostRuntime) -> io::Result<()> {
     println!(rt; "Step 4. A rack of three machines.")?;
-    let plan = placements(rt.alloc(), &wishes(11))?;
+    let plan: Vec<Placement> = jobs(11).iter().copied().flatten().collect(rt.alloc())?;
     tell_roles(rt, plan.as_slice())?;
     tell_verdict(rt, plan.as_slice())?;
     tell_stop(rt, plan.as_slice(), 2)?;
@@ -121,6 +97,6 @@ pub fn tell(rt: &HostRuntime) -> io::Result<()> {
         "  With deadline 10 for job 3, a stop of machine 2 at an awkward tick would make it late: job 2's"
     )?;
     println!(rt; "  standby has worked before the stop, and then job 1's standby wakes.")?;
-    let tight = placements(rt.alloc(), &wishes(10))?;
+    let tight: Vec<Placement> = jobs(10).iter().copied().flatten().collect(rt.alloc())?;
     tell_verdict(rt, tight.as_slice())
 }

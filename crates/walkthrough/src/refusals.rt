@@ -16,10 +16,7 @@ fn judge(rt: &HostRuntime, draft: Draft) -> io::Result<()> {
     )?;
     match Terms::new(draft) {
         Ok(_) => println!(rt; "lawful"),
-        Err(refusal) => {
-            let no = refusal.number();
-            println!(rt; "refused with {no}")
-        }
+        Err(refusal) => println!(rt; "{refusal}"),
     }
 }
 

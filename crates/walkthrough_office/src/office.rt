@@ -2,59 +2,9 @@
 use orders::Ascending;
 use planner::Plan;
 use precedence::Deadline;
-use rack::Status;
 use std::io;
+use telling::{tell_figures, tell_place, tell_withdraw};
 use terms::Draft;
-
-fn tell_place(
-    rt: &HostRuntime,
-    plan: &mut Plan<Deadline, Ascending>,
-    draft: Draft,
-) -> io::Result<()> {
-    let number = draft.number;
-    match plan.place(draft) {
-        Ok((primary, standby, Status::Passive)) => println!(rt;
-            "  place job {number}: primary on machine {primary}, standby asleep on machine {standby}"
-        ),
-        Ok((primary, standby, Status::Active)) => println!(rt;
-            "  place job {number}: primary on machine {primary}, standby running along on machine {standby}"
-        ),
-        Err(refusal) => {
-            let no = refusal.number();
-            println!(rt; "  place job {number}: refused with {no}")
-        }
-    }
-}
-
-fn tell_figures(
-    rt: &HostRuntime,
-    plan: &mut Plan<Deadline, Ascending>,
-    number: u32,
-) -> io::Result<()> {
-    match plan.figures(number) {
-        Ok((quiet, lost, standby)) => println!(rt;
-            "  figures of job {number}: quiet {quiet}, at most {lost} when another machine stops, standby {standby}"
-        ),
-        Err(refusal) => {
-            let no = refusal.number();
-            println!(rt; "  figures of job {number}: refused with {no}")
-        }
-    }
-}
-
-fn tell_withdraw(
-    rt: &HostRuntime,
-    plan: &mut Plan<Deadline, Ascending>,
-    number: u32,
-) -> io::Result<()> {
-    match plan.withdraw(number) {
-        Ok(()) => println!(rt; "  withdraw job {number}: done; no other placement changes"),
-        Err(refusal) => {
-            let no = refusal.number();
-            println!(rt; "  withdraw job {number}: refused with {no}")
-        }
-    }
-}
 
 // The office's jobs, in minutes: drawings twice an hour, models and mail hourly, the archive every two hours.
 const DRAWINGS: Draft = Draft {
@@ -94,15 +44,15 @@ const ARCHIVE: Draft = Draft {
 };
 
 fn tell_signing(rt: &HostRuntime, plan: &mut Plan<Deadline, Ascending>) -> io::Result<()> {
-    tell_place(rt, plan, DRAWINGS)?;
-    tell_place(rt, plan, MODELS)?;
-    tell_place(rt, plan, MAIL)?;
-    tell_place(rt, plan, MAIL)?;
+    tell_place(rt, DRAWINGS.number, plan.place(DRAWINGS))?;
+    tell_place(rt, MODELS.number, plan.place(MODELS))?;
+    tell_place(rt, MAIL.number, plan.place(MAIL))?;
+    tell_place(rt, MAIL.number, plan.place(MAIL))?;
     println!(rt; "  Refusal 3: that number is planned already.")?;
-    tell_figures(rt, plan, 101)?;
-    tell_figures(rt, plan, 102)?;
-    tell_figures(rt, plan, 103)?;
-    tell_place(rt, plan, ARCHIVE)
+    tell_figures(rt, 101, plan.figures(101))?;
+    tell_figures(rt, 102, plan.figures(102))?;
+    tell_figures(rt, 103, plan.figures(103))?;
+    tell_place(rt, ARCHIVE.number, plan.place(ARCHIVE))
 }
 
 pub fn tell(rt: &HostRuntime) -> io::Result<()> {
@@ -120,7 +70,7 @@ pub fn tell(rt: &HostRuntime) -> io::Result<()> {
     println!(rt;
         "  Refusal 5: no choice of two machines and a status passes, and none would beside more jobs either."
     )?;
-    tell_withdraw(rt, &mut plan, 102)?;
-    tell_place(rt, &mut plan, ARCHIVE)?;
-    tell_figures(rt, &mut plan, 104)
+    tell_withdraw(rt, 102, plan.withdraw(102))?;
+    tell_place(rt, ARCHIVE.number, plan.place(ARCHIVE))?;
+    tell_figures(rt, 104, plan.figures(104))
 }
