@@ -1,9 +1,6 @@
 -- The demand of a set grows with the window.
 use Rattle.std.proofs.Common.{◌≡◌, ℕ, zero, suc, ◌+◌, ◌-◌, ◌/◌, ◌<◌, ◌≤◌, Bool, true, false, cond, List, [], ◌∷◌, length, get_or, take, ap, le_of_suc-le-suc, not-suc-le-zero, mul-le-mul, le-div_iff_mul-le, add-one, arith}
 use native.Mathlib.Nat.{mod-add-div'}
-use Rattle.std.specs.Int.{div_ceil}
-use Rattle.std.proofs.lemmas.Grind.{div_ceil_times}
-use Rattle.std.proofs.lemmas.Nat.{div_below}
 use Rattle.terms.specs.declared.terms.Terms.{Terms}
 use Rattle.figures.specs.declared.copies.Role.{Role}
 use Rattle.figures.specs.declared.copies.Role.TheVariants.{Primary, Standby}
@@ -25,15 +22,6 @@ div_mono a b k pos h = (le-div_iff_mul-le pos).1 (omega (arith, mod-add-div' a k
 
 pub ceil_mono : (a b k : ℕ) → 1 ≤ k → a ≤ b → ceil a k ≤ ceil b k
 ceil_mono a b k pos h = div_mono (a + (k - 1)) (b + (k - 1)) k pos (omega arith)
-
--- the library's division that rounds up
-pub div_ceil_is : (a b : ℕ) → 1 ≤ b → div_ceil a b ≡ ceil a b
-div_ceil_is a b some =
-    let pos : 0 < b = omega arith in
-    let c = div_ceil a b in
-    let t = div_ceil_times a b pos in
-    let low : c ≤ ceil a b = (le-div_iff_mul-le pos).1 (omega (arith, t.1)) in
-    omega (arith, low, div_below (a + (b - 1)) b (suc c) pos (omega (arith, t.0)))
 
 pub work_in_mono : (c : JobCopy) (x y : ℕ) → x ≤ y → work_in c x ≤ work_in c y
 work_in_mono c x y h =

@@ -31,12 +31,13 @@ impl JobCopy {
     }
 
     // How many releases can fall into a window of x ticks.
-    #[tactic(auto, using(crate::proofs::Demands::div_ceil_is))]
     fn releases(&self, x: u64) -> u64
         requires { x ≤ 1000000 }
         ensures { result ≡ ceil (x + self.now.lateness) self.now.terms.period }
     {
-        (x + u64::from(self.lateness)).div_ceil(u64::from(self.terms.period()))
+        let period = u64::from(self.terms.period());
+        // `div_ceil` proves here, but made `figure` some 5 % slower.
+        (x + u64::from(self.lateness) + (period - 1)) / period
     }
 
     // The most work of the copy that can fall into a window of x ticks.

@@ -31,6 +31,7 @@ impl<'a, R: Precedence> Held<'a, R> {
 
     // What is asked of a window of x ticks, unless that is more than the limit.
     // The sum stops past the limit, so that it stays small however many copies there are.
+    // `try_fold` in place of the `for` left the goal of the return open.
     fn demand_within(&self, x: u64, limit: u64) -> Option<u64>
         requires { (x ≤ 1000000) × (limit ≤ 1000000) }
         ensures { MatchOption result (limit < demand (R.Precedence.before self.now.rule.now) self.now.set.now self.now.own.now x) (λ w. (w ≡ demand (R.Precedence.before self.now.rule.now) self.now.set.now self.now.own.now x) × (w ≤ limit)) }
