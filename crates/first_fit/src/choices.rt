@@ -18,7 +18,7 @@ use terms::Terms;
 // names and that all else stays. `Ready` stays a clause, since the roster that it speaks of changes between calls.
 impl<R: Precedence> Search<'_, R> {
     // Puts the job into a plan that passes, and takes it out again unless the plan still does.
-    // No closure as the test, for this and `try_choice`: five clauses on it would be longer than both bodies.
+    // A closure as the test would join this with `try_choice`, but its clauses would be longer than both bodies.
     #[tactic(auto, using(crate::proofs::Touches::tried_touched, crate::proofs::Tries::in_and_out))]
     fn try_beside(
         &self,
