@@ -1,11 +1,10 @@
 -- The first choice that a test takes: how a search finds it, and what it says of the choices before it.
-use Rattle.std.proofs.Common.{◌≡◌, ℕ, ◌+◌, ◌<◌, ◌≤◌, Bool, true, false, cond, not, ◌&&◌, eqb, ◌⊎◌, List, [], ◌∷◌, length, get_or, drop, Some, None, Option, sym, refl, ap, ◌∙◌, inl, inr, ⊎_elim, arith}
-use Rattle.std.proofs.lemmas.List.{at_drop_more, at_drop_all}
-use Rattle.std.proofs.lemmas.Bool.{cases_eq, and_from, and_parts, and_left, both_ways, cond_both, cond-true, cond-false, eq-eqb, ne_eqb, eqb-false, not-true, not_from_true, not_from_false}
+use Rattle.std.proofs.Common.{◌≡◌, ℕ, Bool, true, cond, not, ◌&&◌, eqb, ◌⊎◌, List, [], ◌∷◌, Some, None, Option, sym, refl, ap, ◌∙◌, inl, inr, ⊎_elim, arith}
+use Rattle.std.proofs.lemmas.Bool.{cases_eq, and_from, and_parts, and_left, both_ways, cond_both, eq-eqb, ne_eqb, eqb-false, not-true, not_from_true, not_from_false}
 use Rattle.rack.specs.declared.placement.Status.{Status}
 use Rattle.rack.specs.declared.placement.Status.TheVariants.{Passive, Active}
 use Rattle.rack.specs.Plan.{In}
-use Rattle.first_fit.specs.Choices.{Choice, first_standby, chosen_or, first_with, first_choice}
+use Rattle.first_fit.specs.Choices.{Choice, first_standby, chosen_or, first_choice}
 
 module _ (test : ℕ → Bool) (p : ℕ) where
   -- the standby that is taken is one of the list, is not the primary, and passes the test
@@ -68,32 +67,10 @@ chosen_none p (Some b) active next e = let z : ◌≡◌ {A = ℕ} 0 1 = cc in a
 chosen_none p None (Some b) next e = let z : ◌≡◌ {A = ℕ} 0 1 = cc in absurd (omega arith)
 chosen_none p None None next e = (refl, refl, e)
 
--- with a choice, that one
-chosen_first :
-    (p : ℕ) (passive active : Option ℕ) (next : Option Choice) (c : Choice) →
-    chosen_or p Passive passive (chosen_or p Active active None) ≡ Some c →
-    chosen_or p Passive passive (chosen_or p Active active next) ≡ Some c
-chosen_first p (Some b) active next c e = e
-chosen_first p None (Some b) next c e = e
-chosen_first p None None next c e = let z : ◌≡◌ {A = ℕ} 0 1 = cc in absurd (omega arith)
-
 module _ (test : ℕ → Status → ℕ → Bool) (turns : List ℕ) where
   -- what a primary has of standbys
   abbrev at_status : ℕ → Status → Option ℕ
   at_status p status = first_standby (test p status) p turns
-
-  -- the primary at a place has a choice
-  pub choice_here :
-      (ps : List ℕ) (i : ℕ) (c : Choice) → i < length ps → first_with (test (get_or ps i 0)) (get_or ps i 0) turns None ≡ Some c →
-      first_choice test (drop i ps) turns ≡ Some c
-  choice_here ps i c lt is =
-      let p : ℕ = get_or ps i 0 in
-      at_drop_more (λ l. first_choice test l turns) ps i 0 lt
-      ∙ chosen_first p (at_status p Passive) (at_status p Active) (first_choice test (drop (i + 1) ps) turns) c is
-
-  -- there are no more
-  pub choice_end : (ps : List ℕ) (i : ℕ) → length ps ≤ i → first_choice test (drop i ps) turns ≡ None
-  choice_end ps i past = at_drop_all (λ l. first_choice test l turns) ps i past
 
   -- the choice is of two different machines of the lists, and passes the test
   pub choice_some :

@@ -1,5 +1,6 @@
 -- What a further job can change in a plan that passes: testing that alone is the plan test.
 use Rattle.std.proofs.Common.{◌≡◌, ℕ, ◌<◌, Bool, true, false, cond, not, ◌&&◌, ◌||◌, eqb, ltb, List, [], ◌∷◌, ◌++◌, length, is_some, unwrap_or, sym, refl, ap, ◌∙◌, inl, inr, ⊎_elim, append-nil}
+use Rattle.std.specs.Cmp as cmp
 use Rattle.std.proofs.lemmas.Bool.{and_from, and_parts, and_cases, both_ways, cases_Bool, cases_eq, cond_both, cond-true, cond-false, eq-eqb, eqb-true, not-true, not_from_false, or_cases, or_parts, or_left, or_right}
 use Rattle.terms.specs.declared.terms.Terms.{Terms}
 use Rattle.figures.specs.declared.copies.JobCopy.{JobCopy}
@@ -20,12 +21,6 @@ use Rattle.plantest.proofs.Sweeps.{sweep_is}
 use Rattle.first_fit.proofs.Tries.{new_number}
 use Rattle.first_fit.specs.Trying.{tried}
 use Rattle.first_fit.specs.Beside.{changed, asks, any_of, asked, pair_beside, machine_beside, touched_passes}
-
--- two tests that hold under the same conditions are equal
-same_test : (a b : Bool) → (a ≡ true → b ≡ true) → (b ≡ true → a ≡ true) → a ≡ b
-same_test true b f g = sym (f refl)
-same_test false true f g = g refl
-same_test false false f g = refl
 
 -- what no placement passes, none of them passes
 pub none_of : (test : Placement → Bool) (ps : List Placement) (p : Placement) → any_of test ps ≡ false → In p ps → test p ≡ false
@@ -259,7 +254,7 @@ module _ (before : Terms → Terms → Bool) (m : ℕ) (ps : List Placement) (x 
   -- in a plan that passes, the test of all that a further job can change is the plan test
   pub touched_is : passes before m ps ≡ true → passes before m (with_job x ps) ≡ touched_passes before m x (with_job x ps)
   touched_is pass =
-      same_test (passes before m (with_job x ps)) (touched_passes before m x (with_job x ps))
+      cmp.both_ways (passes before m (with_job x ps)) (touched_passes before m x (with_job x ps))
       (λ whole.
       let swept = sweep_is before m (with_job x ps) arranged_with ∙ whole in
       let own = arranged_with.placed x (with_job_has x ps) in

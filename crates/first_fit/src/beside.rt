@@ -88,7 +88,7 @@ impl<R: Precedence> Beside<'_, R> {
     fn machine_beside(&self, space: &mut Workspace, g: u8) -> bool
         ensures { result ≡ machine_beside (R.Precedence.before self.now.rule.now) self.now.roster.now.machines self.now.x.now self.now.roster.now.placements.items g }
     {
-        // No `all`, here and below: its closure would change `space`, and no chain proof goes through such a closure.
+        // No `all`, here and below: its closure would change `space`, and no chain proof goes through that.
         for f in 0..self.roster.machines() {
             if !self.pair_beside(space, g, f) {
                 return false;
@@ -128,6 +128,7 @@ impl<R: Precedence> Search<'_, R> {
         ensures figures { IfSome result (λ l. l.now ≡ map (passive_late (R.Precedence.before self.now.rule.now) roster.now.placements.items) roster.now.placements.items) }
     {
         lates.items.clear();
+        // No `extend`: its closure would change `space`, and it may ask for memory.
         for (p, known) in roster.placements().iter().zip(self.known) {
             let late = if is_changed(x, p.primary) {
                 quiet_figure(self.rule, roster, p, space)?

@@ -15,9 +15,11 @@ use roster::Roster;
 use terms::Terms;
 
 // Roster and memory are no fields: each method would have to ensure besides that its references keep their ghost
-// names and that all else stays. `Ready` stays a clause: a ghost field beside a `&mut` gets no proof.
+// names and that all else stays. `Ready` stays a clause, since the roster that it speaks of changes between calls.
 impl<R: Precedence> Search<'_, R> {
     // Puts the job into a plan that passes, and takes it out again unless the plan still does.
+    // A closure as the test would join this with `try_choice`, but its clauses would be longer than both bodies.
+    #[tactic(auto, using(crate::proofs::Touches::tried_touched, crate::proofs::Tries::in_and_out))]
     fn try_beside(
         &self,
         roster: &mut Roster,
@@ -54,6 +56,7 @@ impl<R: Precedence> Search<'_, R> {
         ensures jobs { roster.new.placements.items ≡ jobs_at self.now.terms primary status roster.old.placements.items result }
         ensures machines { roster.new.machines ≡ roster.old.machines }
     {
+        // No `find`, here and below: its closure would change the roster, and no chain proof goes through that.
         for standby in self.turns {
             let p = Placement {
                 terms: self.terms,
@@ -92,6 +95,7 @@ impl<R: Precedence> Search<'_, R> {
     }
 
     // The first choice of all: each primary in turn.
+    #[tactic(auto, unfolding(crate::specs::Trying::tried_first))]
     fn try_primaries(
         &self,
         roster: &mut Roster,

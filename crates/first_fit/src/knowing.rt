@@ -15,6 +15,7 @@ fn all_lates<R: Precedence>(rule: &R, roster: &Roster, space: &mut Workspace, kn
     ensures figures { known.new.items.items ≡ map (passive_late (R.Precedence.before rule.now) roster.now.placements.items) roster.now.placements.items }
 {
     known.items.clear();
+    // No `extend`: its closure would change `space`, and it may ask for memory.
     for p in roster.placements() {
         known
             .items

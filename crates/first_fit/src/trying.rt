@@ -16,6 +16,7 @@ pub(crate) fn take_back(roster: &mut Roster, p: &Placement)
 }
 
 // Puts the job in, and takes it out again unless the plan then passes.
+#[tactic(auto, using(crate::proofs::Tries::tried_fails, crate::proofs::Tries::in_and_out))]
 pub fn try_choice<R: Precedence>(
     rule: &R,
     roster: &mut Roster,

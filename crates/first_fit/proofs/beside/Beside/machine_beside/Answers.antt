@@ -1,4 +1,4 @@
-use Rattle.std.proofs.Common.{◌≡◌, ◌<◌, vec_items, sym, arith}
+use Rattle.std.proofs.Common.{◌<◌, vec_items, sym, arith}
 use Rattle.rack.proofs.Tested.{all_below_part_false}
 use Rattle.first_fit.specs.Beside.{pair_beside}
 use Rattle.first_fit.proofs.beside.Beside.machine_beside.Goals as goal

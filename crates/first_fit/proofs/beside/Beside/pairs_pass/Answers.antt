@@ -1,4 +1,4 @@
-use Rattle.std.proofs.Common.{◌≡◌, ◌<◌, vec_items, sym, arith}
+use Rattle.std.proofs.Common.{◌<◌, vec_items, sym, arith}
 use Rattle.std.proofs.lemmas.Bool.{and_right}
 use Rattle.rack.specs.Test.{all_below}
 use Rattle.rack.proofs.Tested.{all_below_part_false}
