@@ -11,7 +11,7 @@ pub enum Role {
 }
 
 // A copy of a job in a set, with the lateness that it has there.
-#[derive(Clone, Copy)]
+#[derive(Clone, Copy, PartialEq, Eq, Debug)]
 pub struct JobCopy {
     pub terms: Terms,
     pub role: Role,

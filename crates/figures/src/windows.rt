@@ -37,13 +37,16 @@ impl<'a, R: Precedence> Held<'a, R> {
         ensures { MatchOption result (limit < demand (R.Precedence.before self.now.rule.now) self.now.set.now self.now.own.now x) (λ w. (w ≡ demand (R.Precedence.before self.now.rule.now) self.now.set.now self.now.own.now x) × (w ≤ limit)) }
     {
         let mut total = u64::from(self.own.charge());
+        if total > limit {
+            return None;
+        }
         for copy in self.set {
+            total += self.held_off_by(copy, x);
             if total > limit {
                 return None;
             }
-            total += self.held_off_by(copy, x);
         }
-        (total <= limit).then_some(total)
+        Some(total)
     }
 
     // The least x with x = demand in x, if with the copy's lateness it ends within the deadline.
