@@ -1,12 +1,12 @@
 -- Terms are admitted exactly when they are admissible.
-use Rattle.std.proofs.Common.{◌≡◌, ℕ, Bool, true, false, cond, ltb, List, length, is_some, Some, None, Ok, Err, Option, Result, sym, refl, ap, ◌∙◌, subst, arith}
+use Rattle.std.proofs.Common.{◌≡◌, Bool, false, cond, ltb, List, length, is_some, Some, None, Ok, Err, Option, Result, sym, refl, ap, ◌∙◌, subst, arith}
 use Rattle.std.proofs.lemmas.Bool.{lt-ltb}
+use Rattle.std.proofs.lemmas.Grind.{common_steps}
 use Rattle.terms.specs.declared.draft.Draft.{Draft}
 use Rattle.terms.specs.declared.terms.Terms.{Terms}
 use Rattle.terms.specs.declared.refusal.Refusal.{Refusal}
 use Rattle.terms.specs.declared.refusal.Refusal.TheVariants.{Known, Full}
-use Rattle.terms.specs.Limits.{lawful}
-use Rattle.terms.specs.Making.{Of, terms_of, terms_if, drafted}
+use Rattle.terms.specs.Making.{Of, drafted}
 use Rattle.terms.proofs.Alike.{drafted_some}
 use Rattle.rack.specs.declared.placement.Placement.{Placement}
 use Rattle.roster.specs.Changes.{find}
@@ -18,33 +18,21 @@ use Rattle.calls.specs.Meanings.{Admissible}
 
 -- terms made of a draft have its numbers
 drafted_of : (d : Draft) (t : Terms) → drafted d ≡ Some t → Of d t
-drafted_of d t is = go (lawful d) refl is
-  where
-    go : (b : Bool) (e : lawful d ≡ b) → terms_if d b e ≡ Some t → Of d t
-    go true e made =
-        let same : terms_of d e ≡ t = cc in
-        subst (λ (u : Terms). Of d u) same (record { number = refl; period = refl; deadline = refl; run = refl; standby = refl; lateness = refl })
-    go false e made = let z : ◌≡◌ {A = ℕ} 0 1 = cc in absurd (omega arith)
+drafted_of d t is = grind (arith, common_steps)
 
 not_some : (o : Option Placement) → is_some o ≡ false → o ≡ None
-not_some None e = refl
-not_some (Some x) e = let z : ◌≡◌ {A = ℕ} 0 1 = cc in absurd (omega arith)
+not_some o e = grind (arith, common_steps)
 
 -- the terms that are admitted
 admitted_is : (ps : List Placement) (u t : Terms) → admitted_terms ps (Some u) ≡ Ok t → t ≡ u
-admitted_is ps u t = go (is_some (find u.number ps)) (ltb (length ps) 96)
-  where
-    go : (known few : Bool) → cond {A = Result Terms Refusal} known (Err Known) (cond few (Ok u) (Err Full)) ≡ Ok t → t ≡ u
-    go true few e = let z : ◌≡◌ {A = ℕ} 0 1 = cc in absurd (omega arith)
-    go false true e = cc
-    go false false e = let z : ◌≡◌ {A = ℕ} 0 1 = cc in absurd (omega arith)
+admitted_is ps u t e = grind (arith, common_steps)
 
 -- terms that are admitted are admissible
 pub admitted_admissible : (ps : List Placement) (d : Draft) (t : Terms) → admitted ps d ≡ Ok t → Admissible ps d t
 admitted_admissible ps d t is = go (drafted d) refl is
   where
     go : (o : Option Terms) → drafted d ≡ o → admitted_terms ps o ≡ Ok t → Admissible ps d t
-    go None e here = let z : ◌≡◌ {A = ℕ} 0 1 = cc in absurd (omega arith)
+    go None e here = cc
     go (Some u) e here =
         let free = admitted_free ps (Some u) t (sym here) in
         let same : t ≡ u = admitted_is ps u t here in

@@ -1,6 +1,7 @@
 -- The three figures of a job of a plan that passes are there, and the second is the largest.
-use Rattle.std.proofs.Common.{◌≡◌, ℕ, zero, suc, ◌<◌, ◌≤◌, Bool, true, eqb, ◌⊎◌, List, is_some, Some, None, Option, sym, refl, ap, ◌∙◌, inl, inr, ⊎_elim, not-suc-le-zero, arith}
-use Rattle.std.proofs.lemmas.Bool.{cases_eq, cases_lt, cond-true, cond-false, eq-eqb, ne_eqb}
+use Rattle.std.proofs.Common.{◌≡◌, ℕ, zero, suc, ◌<◌, ◌≤◌, Bool, true, ◌⊎◌, List, is_some, Some, None, Option, sym, refl, ap, ◌∙◌, inl, inr, ⊎_elim, arith}
+use Rattle.std.proofs.lemmas.Bool.{cases_eq, cases_lt}
+use Rattle.std.proofs.lemmas.Grind.{common_steps}
 use Rattle.terms.specs.declared.terms.Terms.{Terms}
 use Rattle.rack.specs.declared.placement.Placement.{Placement}
 use Rattle.rack.specs.Plan.{In, number}
@@ -15,8 +16,7 @@ use Rattle.calls.specs.Meanings.{Figured}
 
 -- a figure that is there is shown
 shown_some : (o : Option ℕ) → is_some o ≡ true → o ≡ Some (shown o)
-shown_some None e = let z : ◌≡◌ {A = ℕ} 0 1 = cc in absurd (omega arith)
-shown_some (Some x) e = refl
+shown_some o e = grind (arith, common_steps)
 
 -- a planned job is found by its number
 pub found_planned : (before : Terms → Terms → Bool) (m : ℕ) (ps : List Placement) (p : Placement) → Safe before m ps → In p ps → find (number p) ps ≡ Some p
@@ -31,15 +31,8 @@ found_planned before m ps p safe at = go (find (number p) ps) refl
 module _ (before : Terms → Terms → Bool) (ps : List Placement) (p : Placement) where
   -- none is larger than the largest
   lost_below : (n f : ℕ) → f < n → lost_shown before ps p f ≤ largest_lost before ps p n
-  lost_below zero f lt = absurd (not-suc-le-zero lt)
-  lost_below (suc n) f lt =
-      ⊎_elim
-      (λ less. omega (arith, lost_below n f less))
-      (λ most.
-      let same : f ≡ n = omega arith in
-      let here : lost_shown before ps p f ≡ lost_shown before ps p n = ap (lost_shown before ps p) same in
-      omega (arith, here))
-      (cases_lt f n)
+  lost_below zero f lt = omega arith
+  lost_below (suc n) f lt = grind (arith, common_steps, lost_below n f)
 
   -- and one is as large, unless the largest is 0
   lost_reached : (n : ℕ) → (largest_lost before ps p n ≡ 0) ⊎ ((f : ℕ) × (f < n) × (lost_shown before ps p f ≡ largest_lost before ps p n))
@@ -56,10 +49,10 @@ module _ (before : Terms → Terms → Bool) (ps : List Placement) (p : Placemen
 
   -- another machine's figure is shown as it is
   lost_elsewhere : (f : ℕ) → (f ≡ p.primary → ⊥) → lost_shown before ps p f ≡ shown (loss_figure before ps p f)
-  lost_elsewhere f other = cond-false (eqb f p.primary) 0 (shown (loss_figure before ps p f)) (ne_eqb f p.primary other)
+  lost_elsewhere f other = grind (arith, common_steps)
 
   lost_own : lost_shown before ps p p.primary ≡ 0
-  lost_own = cond-true (eqb p.primary p.primary) 0 (shown (loss_figure before ps p p.primary)) (eq-eqb p.primary p.primary refl)
+  lost_own = grind (arith, common_steps)
 
 -- some machine is not the primary's
 another : (m g : ℕ) → 2 ≤ m → (f : ℕ) × (f < m) × (f ≡ g → ⊥)

@@ -1,14 +1,13 @@
 -- What holds at each call of a list, said of its parts.
-use Rattle.std.proofs.Common.{◌≡◌, ℕ, ◌≤◌, Bool, true, false, cond, eqb, ltb, leb, ◌⊎◌, List, [], ◌∷◌, ◌++◌, length, get_or, is_some, Some, None, Ok, Err, Option, Result, sym, refl, ap, ◌∙◌, subst, inl, inr, ⊎_elim, arith}
-use Rattle.std.proofs.lemmas.Bool.{and_from, both_ways, eq-eqb, eqb-true, le-leb}
+use Rattle.std.proofs.Common.{◌≡◌, ℕ, Bool, true, cond, ◌⊎◌, List, [], ◌∷◌, ◌++◌, length, get_or, is_some, Some, None, Ok, Err, Option, Result, sym, refl, ap, ◌∙◌, subst, arith}
+use Rattle.std.proofs.lemmas.Grind.{common_steps}
 use Rattle.terms.specs.declared.draft.Draft.{Draft}
 use Rattle.terms.specs.declared.terms.Terms.{Terms}
 use Rattle.terms.specs.declared.refusal.Refusal.{Refusal}
-use Rattle.terms.specs.declared.refusal.Refusal.TheVariants.{MachineCount, Limits, Known, Full, NoPlace, Unknown, Pin, NotAPlan, PlanFails, Short, Rehearsal, Line}
+use Rattle.terms.specs.declared.refusal.Refusal.TheVariants.{NoPlace, Unknown}
 use Rattle.terms.specs.Making.{drafted}
 use Rattle.rack.specs.declared.placement.Placement.{Placement}
 use Rattle.rack.specs.declared.placement.Status.{Status}
-use Rattle.rack.specs.declared.placement.Status.TheVariants.{Passive, Active}
 use Rattle.rack.specs.Plan.{In, Once, number}
 use Rattle.rack.specs.Sets.{quiet_figure}
 use Rattle.rack.specs.Test.{Passes, standby_figure}
@@ -19,17 +18,17 @@ use Rattle.roster.proofs.Jobs.{find_none, find_not, without_part, without_keeps}
 use Rattle.plantest.specs.JobFigures.{shown, largest_lost}
 use Rattle.plantest.specs.Verdicts.{Safe}
 use Rattle.first_fit.specs.Choices.{Choice, placement_of, passes_beside}
-use Rattle.planner.specs.Answers.{status_number, is_count, withdraw_answer, admitted, admitted_terms, first_passing, chosen, place_admitted, place_answer, jobs_with, place_jobs, pin_jobs}
+use Rattle.planner.specs.Answers.{status_number, is_count, withdraw_answer, admitted, admitted_terms, first_passing, chosen, place_admitted, place_answer, jobs_with, place_jobs}
 use Rattle.planner.specs.Refused.{PlaceMeans}
 use Rattle.planner.specs.Figures.{figures_found}
-use Rattle.planner.specs.Filed.{AdoptMeans, adopt_answer, adopt_plan, refused_with}
+use Rattle.planner.specs.Filed.{adopt_answer, refused_with}
 use Rattle.calls.specs.declared.call.Call.{Call}
 use Rattle.calls.specs.declared.call.Call.TheVariants.{Place, Pin as PinCall, Withdraw, Adopt, Figures}
 use Rattle.calls.specs.declared.answer.Outcome.TheVariants.{Done}
 use Rattle.calls.specs.Said.{Answer, said_placed, said_done, said_figures, refusal_number, values}
-use Rattle.calls.specs.Calls.{State, state, fresh, begin_answer, plan_in, answer_of, after, after_all, answers_of}
+use Rattle.calls.specs.Calls.{State, state, fresh, answer_of, after, after_all, answers_of}
 use Rattle.calls.specs.Carrying.{Right, Holds, AllCarried}
-use Rattle.calls.specs.Meanings.{Judged, Placing, Pinning, Withdrawing}
+use Rattle.calls.specs.Meanings.{Judged, Placing, Withdrawing}
 use Rattle.calls.specs.Promise.{Kept, Promise}
 use Rattle.calls.specs.Turns.{candidates, First}
 use Rattle.calls.proofs.Figured.{found_planned, figured_so}
@@ -40,44 +39,20 @@ use Rattle.calls.proofs.Unchanged.{refused_same}
 
 -- only refusal 5 has that number
 numbered_five : (r : Result Choice Refusal) → refusal_number (said_placed r) ≡ 5 → r ≡ Err NoPlace
-numbered_five (Ok c) e = absurd (let f : ⊥ = omega arith in f)
-numbered_five (Err MachineCount) e = absurd (let f : ⊥ = omega arith in f)
-numbered_five (Err Limits) e = absurd (let f : ⊥ = omega arith in f)
-numbered_five (Err Known) e = absurd (let f : ⊥ = omega arith in f)
-numbered_five (Err Full) e = absurd (let f : ⊥ = omega arith in f)
-numbered_five (Err NoPlace) e = refl
-numbered_five (Err Unknown) e = absurd (let f : ⊥ = omega arith in f)
-numbered_five (Err Pin) e = absurd (let f : ⊥ = omega arith in f)
-numbered_five (Err NotAPlan) e = absurd (let f : ⊥ = omega arith in f)
-numbered_five (Err PlanFails) e = absurd (let f : ⊥ = omega arith in f)
-numbered_five (Err Short) e = absurd (let f : ⊥ = omega arith in f)
-numbered_five (Err Rehearsal) e = absurd (let f : ⊥ = omega arith in f)
-numbered_five (Err Line) e = absurd (let f : ⊥ = omega arith in f)
+numbered_five r e = grind (arith, common_steps)
 
 -- what is not admitted is refused with another number
 admitted_other : (ps : List Placement) (o : Option Terms) → admitted_terms ps o ≡ Err NoPlace → ⊥
-admitted_other ps None e = let z : ◌≡◌ {A = ℕ} 2 5 = ap refused_with e in omega arith
-admitted_other ps (Some u) is = go (is_some (find u.number ps)) (ltb (length ps) 96) is
-  where
-    go : (known few : Bool) → cond {A = Result Terms Refusal} known (Err Known) (cond few (Ok u) (Err Full)) ≡ Err NoPlace → ⊥
-    go true few e = let z : ◌≡◌ {A = ℕ} 3 5 = ap refused_with e in omega arith
-    go false true e = let z : ◌≡◌ {A = ℕ} 0 5 = ap refused_with e in omega arith
-    go false false e = let z : ◌≡◌ {A = ℕ} 4 5 = ap refused_with e in omega arith
+admitted_other ps o e = grind (arith, common_steps)
 
 -- a search ends with a choice or with refusal 5
 taken_or_none : (o : Option Choice) → (refusal_number (said_placed (chosen o)) ≡ 0) ⊎ (refusal_number (said_placed (chosen o)) ≡ 5)
-taken_or_none None = inr refl
-taken_or_none (Some c) = inl refl
+taken_or_none o = grind (arith, common_steps)
 
 -- without a number, no job has it
 without_once : (n : ℕ) (ps : List Placement) (q : Placement) → Once ps → In q (without n ps) → number q ≡ n → ⊥
 without_once n [] q once at same = at
-without_once n (p ∷ ps) q once at same = go (eqb (number p) n) refl (λ later equal. without_once n ps q once.1 later equal) at same
-  where
-    go : (b : Bool) → eqb (number p) n ≡ b → (In q (without n ps) → number q ≡ n → ⊥) → In q (cond b ps (p ∷ without n ps)) → number q ≡ n → ⊥
-    go true is rest here equal = once.0 q here (equal ∙ sym (eqb-true (number p) n is))
-    go false is rest here equal =
-        ⊎_elim (λ (first : q ≡ p). both_ways (eqb (number p) n) is (eq-eqb (number p) n (sym (ap number first) ∙ equal))) (λ (later : In q (without n ps)). rest later equal) here
+without_once n (p ∷ ps) q once at same = grind (arith, common_steps, without_once n ps q)
 
 withdrawing_so : (s : State) (n : ℕ) → Once s.jobs → Withdrawing s n (refusal_number (said_done (withdraw_answer s.jobs n))) (state s.machines (without n s.jobs) s.out)
 withdrawing_so s n once =
@@ -91,8 +66,7 @@ withdrawing_so s n once =
     }
   where
     go : (o : Option Placement) → refusal_number (said_done (cond (is_some o) (Ok tt) (Err Unknown))) ≡ 6 → o ≡ None
-    go None six = refl
-    go (Some p) six = absurd (let f : ⊥ = omega arith in f)
+    go o six = grind (arith, common_steps)
 
 module _ (before : Terms → Terms → Bool) (turns : ℕ → List ℕ → List ℕ) (m : ℕ) (ps : List Placement) (d : Draft) where
   -- what is refused for want of machines was admitted
@@ -120,27 +94,13 @@ module _ (before : Terms → Terms → Bool) (turns : ℕ → List ℕ → List 
         (sym (admissible_admitted ps d t may)) (taken_or_none (first_passing before turns m ps t))),
   )
 
--- a status is known by its number
-same_status : (x y : Status) → status_number x ≡ status_number y → x ≡ y
-same_status Passive Passive e = refl
-same_status Passive Active e = absurd (let f : ⊥ = omega arith in f)
-same_status Active Passive e = absurd (let f : ⊥ = omega arith in f)
-same_status Active Active e = refl
-
 -- a choice that is told was chosen
 said_chosen : (r : Result Choice Refusal) (p b : ℕ) (status : Status) → values (said_placed r) ≡ p ∷ b ∷ status_number status ∷ [] → r ≡ Ok (p, b, status)
-said_chosen (Ok c) p b status e =
-    let one : c.0 ≡ p = cc in
-    let two : c.1 ≡ b = cc in
-    let third : status_number c.2 ≡ status_number status = cc in
-    let three : c.2 ≡ status = same_status c.2 status third in
-    λ i. Ok (one i, two i, three i)
-said_chosen (Err f) p b status e = let z : ◌≡◌ {A = ℕ} 0 1 = cc in absurd (omega arith)
+said_chosen r p b status e = grind (arith, common_steps)
 
 -- and found
 chosen_found : (o : Option Choice) (c : Choice) → chosen o ≡ Ok c → o ≡ Some c
-chosen_found None c e = let z : ◌≡◌ {A = ℕ} 0 1 = cc in absurd (omega arith)
-chosen_found (Some x) c e = let same : x ≡ c = cc in ap (λ (y : Choice). Some y) same
+chosen_found o c e = grind (arith, common_steps)
 
 module _ (before : Terms → Terms → Bool) (turns : ℕ → List ℕ → List ℕ) (m : ℕ) (ps : List Placement) (d : Draft) (c : Choice) where
   -- what is answered with a choice was admitted, and the choice found
@@ -151,7 +111,7 @@ module _ (before : Terms → Terms → Bool) (turns : ℕ → List ℕ → List 
     where
       go : (a : Result Terms Refusal) → admitted ps d ≡ a → place_admitted before turns m ps a ≡ Ok c → (t : Terms) × (admitted ps d ≡ Ok t) × (first_passing before turns m ps t ≡ Some c)
       go (Ok t) e here = (t, e, chosen_found (first_passing before turns m ps t) c here)
-      go (Err f) e here = let z : ◌≡◌ {A = ℕ} 0 1 = cc in absurd (omega arith)
+      go (Err f) e here = cc
 
   -- the test of the plan is that it passes
   first_by : (t : Terms) → first_passing before turns m ps t ≡ Some c → First (λ e. Passes before m (with_job (placement_of t e.0 e.1 e.2) ps)) (candidates (turns m (loads ps))) c
@@ -212,72 +172,53 @@ module _ (before : Terms → Terms → Bool) (turns : ℕ → List ℕ → List 
         ap (λ (xs : List Answer). get_or xs (length first) (Ok Done)) (all.answered ∙ ap (answers_of before turns code (fresh m out)) parts)
         ∙ answer_after (fresh m out) first c rest
 
-    -- and its number
-    numbered :
-        (first : List Call) (c : Call) (rest : List Call) → calls ≡ first ++ c ∷ rest →
-        refusal_number (get_or answers (length first) (Ok Done)) ≡ refusal_number (answer_of before turns code (then first) c)
-    numbered first c rest parts = ap refusal_number (told first c rest parts)
+    safe_at : (first rest : List Call) → calls ≡ first ++ rest → Safe before (then first).machines (then first).jobs
+    safe_at first rest parts = safe_after (fresh m out) first rest (subst (λ (cs : List Call). Holds before turns code (fresh m out) cs) parts all.holds)
 
-    held_in_parts : (first : List Call) (c : Call) (rest : List Call) → calls ≡ first ++ c ∷ rest → Right before turns code (then first) c
-    held_in_parts first c rest parts =
-        right_after (fresh m out) first c rest (subst (λ (cs : List Call). Holds before turns code (fresh m out) cs) parts all.holds)
+    right_at : (first : List Call) (c : Call) (rest : List Call) → calls ≡ first ++ c ∷ rest → Right before turns code (then first) c
+    right_at first c rest parts = right_after (fresh m out) first c rest (subst (λ (cs : List Call). Holds before turns code (fresh m out) cs) parts all.holds)
 
     said_adopt : (r : Result (Unit {0}) Refusal) → refused_with r ≡ refusal_number (said_done r)
-    said_adopt (Ok u) = refl
-    said_adopt (Err e) = refl
+    said_adopt r = grind (arith, common_steps)
 
     kept_so : Kept before turns code then (λ first. get_or answers (length first) (Ok Done)) calls
     kept_so =
         record {
-          safe = λ first rest parts.
-              safe_after (fresh m out) first rest (subst (λ (cs : List Call). Holds before turns code (fresh m out) cs) parts all.holds);
+          safe = safe_at;
           judged = λ first d rest parts.
               let s = then first in
-              subst (λ (n : ℕ). Judged before s d n) (sym (numbered first (Place d) rest parts))
-              (judged_so before turns s.machines s.jobs d s.out (held_in_parts first (Place d) rest parts));
+              rw (told first (Place d) rest parts) (judged_so before turns s.machines s.jobs d s.out (right_at first (Place d) rest parts));
           placed = λ first d rest parts p b status is.
               let s = then first in
               placing_so before turns s.machines s.jobs d (p, b, status) s.out
               (said_chosen (place_answer before turns s.machines s.jobs d) p b status (sym (ap values (told first (Place d) rest parts)) ∙ is));
-          pinned = λ first d p b n rest parts.
-              let s = then first in
-              subst (λ (k : ℕ). Pinning before s d p b n k (state s.machines (pin_jobs before s.machines s.jobs d p b n) s.out))
-              (sym (numbered first (PinCall d p b n) rest parts)) (pinning_so before s d p b n);
+          pinned = λ first d p b n rest parts. rw (told first (PinCall d p b n) rest parts) (pinning_so before (then first) d p b n);
           withdrawn = λ first n rest parts.
-              let s = then first in
-              let safe = safe_after (fresh m out) first (Withdraw n ∷ rest) (subst (λ (cs : List Call). Holds before turns code (fresh m out) cs) parts all.holds) in
-              subst (λ (k : ℕ). Withdrawing s n k (state s.machines (without n s.jobs) s.out)) (sym (numbered first (Withdraw n) rest parts))
-              (withdrawing_so s n safe.plan.arranged.once);
+              let safe = safe_at first (Withdraw n ∷ rest) parts in
+              rw (told first (Withdraw n) rest parts) (withdrawing_so (then first) n safe.plan.arranged.once);
           figured = λ first n rest parts p at is.
               let s = then first in
-              let safe = safe_after (fresh m out) first (Figures n ∷ rest) (subst (λ (cs : List Call). Holds before turns code (fresh m out) cs) parts all.holds) in
-              let found : find n s.jobs ≡ Some p = ap (λ (k : ℕ). find k s.jobs) (sym is) ∙ found_planned before s.machines s.jobs p safe at in (
+              let safe = safe_at first (Figures n ∷ rest) parts in
+              let found : find n s.jobs ≡ Some p = ap (λ (k : ℕ). find k s.jobs) (sym is) ∙ found_planned before s.machines s.jobs p safe at in
+              let said = told first (Figures n) rest parts ∙ ap (λ (o : Option Placement). said_figures (figures_found before s.machines s.jobs o)) found in (
                 shown (quiet_figure before s.jobs p),
                 largest_lost before s.jobs p s.machines,
                 shown (standby_figure before s.jobs p),
-                ap refusal_number (told first (Figures n) rest parts ∙ ap (λ (o : Option Placement). said_figures (figures_found before s.machines s.jobs o)) found),
-                ap values (told first (Figures n) rest parts ∙ ap (λ (o : Option Placement). said_figures (figures_found before s.machines s.jobs o)) found),
+                ap refusal_number said,
+                ap values said,
                 figured_so before s.machines s.jobs p safe at,
               );
           adopted = λ first bytes rest parts.
-              let s = then first in
-              subst (λ (n : ℕ). AdoptMeans before code bytes.now n (plan_in s) (adopt_plan before code bytes.now (plan_in s)))
-              (said_adopt (adopt_answer before code bytes.now) ∙ sym (numbered first (Adopt bytes) rest parts))
-              (held_in_parts first (Adopt bytes) rest parts);
+              rw (told first (Adopt bytes) rest parts, ← said_adopt (adopt_answer before code bytes.now)) (right_at first (Adopt bytes) rest parts);
           unchanged = λ first c rest parts refused.
-              refused_same before turns code (then first) c (λ none. refused (numbered first c rest parts ∙ none));
+              refused_same before turns code (then first) c (λ none. refused (ap refusal_number (told first c rest parts) ∙ none));
         }
 
     pub promised : Promise before turns code m out calls answers end
     promised = record { answered = all.answered; ended = all.ended; kept = kept_so }
 
--- a count that keeps its limits is one
-pub counted : (m : ℕ) → 2 ≤ m → m ≤ 16 → is_count m ≡ true
-counted m two sixteen = and_from (leb 2 m) (leb m 16) (le-leb 2 m two) (le-leb m 16 sixteen)
-
 -- a plan just opened has so many machines and no job
 pub opened_fresh :
     (m n k : ℕ) (ps qs : List Placement) (out : List ℕ) → is_count m ≡ true → n ≡ cond (is_count m) m k → ps ≡ cond (is_count m) [] qs →
     state n ps out ≡ fresh m out
-opened_fresh m n k ps qs out is count none =
-    ap (λ z. state z ps out) (count ∙ ap (λ (t : Bool). cond t m k) is) ∙ ap (λ z. state m z out) (none ∙ ap (λ (t : Bool). cond t [] qs) is)
+opened_fresh m n k ps qs out is count none = grind (arith, common_steps)

@@ -1,6 +1,7 @@
 -- The first choice that passes, among all in their sequence.
-use Rattle.std.proofs.Common.{◌≡◌, ℕ, Bool, true, false, cond, not, ◌&&◌, eqb, List, [], ◌∷◌, ◌++◌, Some, None, Option, refl, ap, ◌∙◌, subst, ⊎_elim, arith}
+use Rattle.std.proofs.Common.{◌≡◌, ℕ, Bool, true, false, cond, List, [], ◌∷◌, ◌++◌, Some, None, Option, refl, ap, ◌∙◌, subst, ⊎_elim, arith}
 use Rattle.std.proofs.lemmas.Bool.{both_ways}
+use Rattle.std.proofs.lemmas.Grind.{common_steps}
 use Rattle.rack.specs.declared.placement.Status.{Status}
 use Rattle.rack.specs.declared.placement.Status.TheVariants.{Passive, Active}
 use Rattle.rack.specs.Plan.{In}
@@ -18,23 +19,14 @@ module _ (test : Choice → Bool) where
 
   first_in_append : (xs ys : List Choice) → first_in (xs ++ ys) ≡ or_else (first_in xs) (first_in ys)
   first_in_append [] ys = refl
-  first_in_append (x ∷ xs) ys = go (test x) (first_in_append xs ys)
-    where
-      go : (b : Bool) → first_in (xs ++ ys) ≡ or_else (first_in xs) (first_in ys) → cond b (Some x) (first_in (xs ++ ys)) ≡ or_else (cond b (Some x) (first_in xs)) (first_in ys)
-      go true rest = refl
-      go false rest = rest
+  first_in_append (x ∷ xs) ys = grind (arith, common_steps, first_in_append xs ys)
 
   -- the standbys of one primary and status
   first_standbys :
       (p : ℕ) (status : Status) (turns : List ℕ) (next : Option Choice) →
       or_else (first_in (standbys p status turns)) next ≡ chosen_or p status (first_standby (λ b. test (p, b, status)) p turns) next
   first_standbys p status [] next = refl
-  first_standbys p status (b ∷ bs) next = go (eqb b p) (test (p, b, status)) refl (first_standbys p status bs next)
-    where
-      go : (own good : Bool) → test (p, b, status) ≡ good → or_else (first_in (standbys p status bs)) next ≡ chosen_or p status (first_standby (λ b'. test (p, b', status)) p bs) next → or_else (first_in (cond own (standbys p status bs) ((p, b, status) ∷ standbys p status bs))) next ≡ chosen_or p status (cond (not own && good) (Some b) (first_standby (λ b'. test (p, b', status)) p bs)) next
-      go true good is rest = rest
-      go false true is rest = ap (λ (t : Bool). or_else (cond t (Some (p, b, status)) (first_in (standbys p status bs))) next) is
-      go false false is rest = ap (λ (t : Bool). or_else (cond t (Some (p, b, status)) (first_in (standbys p status bs))) next) is ∙ rest
+  first_standbys p status (b ∷ bs) next = grind (arith, common_steps, first_standbys p status bs next)
 
   -- all of them
   pub first_is : (ps turns : List ℕ) → first_in (with_primaries ps turns) ≡ first_choice (λ p status b. test (p, b, status)) ps turns
@@ -49,7 +41,7 @@ module _ (test : Choice → Bool) where
 
   -- what is found is the first that passes the test
   pub first_found : (xs : List Choice) (c : Choice) → first_in xs ≡ Some c → First (λ e. test e ≡ true) xs c
-  first_found [] c e = let z : ◌≡◌ {A = ℕ} 0 1 = cc in absurd (omega arith)
+  first_found [] c e = cc
   first_found (x ∷ xs) c e = go (test x) refl (λ rest. first_found xs c rest) e
     where
       go : (b : Bool) → test x ≡ b → (first_in xs ≡ Some c → First (λ y. test y ≡ true) xs c) → cond b (Some x) (first_in xs) ≡ Some c → First (λ y. test y ≡ true) (x ∷ xs) c

@@ -1,14 +1,13 @@
 -- A call that is refused changes nothing.
-use Rattle.std.proofs.Common.{◌≡◌, ℕ, Bool, true, false, cond, eqb, leb, List, [], ◌∷◌, ◌++◌, length, take, drop, is_some, Some, None, Ok, Err, Option, Result, sym, refl, ap, ◌∙◌, arith, take-append-drop}
+use Rattle.std.proofs.Common.{◌≡◌, ℕ, Bool, false, cond, leb, List, [], ◌∷◌, length, is_some, Ok, Err, Option, Result, refl, ap, ◌∙◌, arith, take-append-drop}
 use Rattle.std.proofs.lemmas.List.{drop-drop}
+use Rattle.std.proofs.lemmas.Grind.{common_steps}
 use Rattle.terms.specs.declared.terms.Terms.{Terms}
 use Rattle.terms.specs.declared.refusal.Refusal.{Refusal}
-use Rattle.terms.specs.declared.refusal.Refusal.TheVariants.{Unknown, PlanFails, Short}
+use Rattle.terms.specs.declared.refusal.Refusal.TheVariants.{Unknown, Short}
 use Rattle.rack.specs.declared.placement.Placement.{Placement}
-use Rattle.rack.specs.Plan.{number}
-use Rattle.rack.specs.Test.{passes}
 use Rattle.roster.specs.Changes.{find, without}
-use Rattle.filewriter.specs.Written.{file_of, file_length}
+use Rattle.filewriter.specs.Written.{file_length}
 use Rattle.planfile.specs.Judging.{plan_of}
 use Rattle.first_fit.specs.Choices.{Choice}
 use Rattle.planner.specs.Answers.{admitted, place_answer, pin_choice, jobs_with, done}
@@ -19,55 +18,35 @@ use Rattle.calls.specs.Said.{said_placed, said_done, said_written, refusal_numbe
 use Rattle.calls.specs.Calls.{State, state, plan_in, with_plan, space_at, with_space, answer_of, after}
 
 placing : (ps : List Placement) (a : Result Terms Refusal) (r : Result Choice Refusal) → (refusal_number (said_placed r) ≡ 0 → ⊥) → jobs_with ps a r ≡ ps
-placing ps a (Ok c) refused = absurd (refused refl)
-placing ps (Err e) (Err f) refused = refl
-placing ps (Ok t) (Err f) refused = refl
+placing ps a r refused = grind (arith, common_steps)
 
 pinning : (ps : List Placement) (a : Result Terms Refusal) (r : Result Choice Refusal) → (refusal_number (said_done (done r)) ≡ 0 → ⊥) → jobs_with ps a r ≡ ps
-pinning ps a (Ok c) refused = absurd (refused refl)
-pinning ps (Err e) (Err f) refused = refl
-pinning ps (Ok t) (Err f) refused = refl
+pinning ps a r refused = grind (arith, common_steps)
 
 -- without a job that is not there
 without_unknown : (n : ℕ) (ps : List Placement) → is_some (find n ps) ≡ false → without n ps ≡ ps
 without_unknown n [] none = refl
-without_unknown n (p ∷ ps) none = go (eqb (number p) n) (λ rest. without_unknown n ps rest) none
-  where
-    go : (b : Bool) → (is_some (find n ps) ≡ false → without n ps ≡ ps) → is_some (cond b (Some p) (find n ps)) ≡ false → cond b ps (p ∷ without n ps) ≡ p ∷ ps
-    go true others none' = let z : ◌≡◌ {A = ℕ} 0 1 = cc in absurd (omega arith)
-    go false others none' = ap (λ (qs : List Placement). p ∷ qs) (others none')
+without_unknown n (p ∷ ps) none = grind (arith, common_steps, without_unknown n ps)
 
 withdrawing :
     (n : ℕ) (ps : List Placement) (b : Bool) → is_some (find n ps) ≡ b →
     (refusal_number (said_done (cond b (Ok tt) (Err Unknown))) ≡ 0 → ⊥) → without n ps ≡ ps
-withdrawing n ps true is refused = absurd (refused refl)
-withdrawing n ps false is refused = without_unknown n ps is
+withdrawing n ps b is refused = grind (arith, common_steps, without_unknown)
 
 adopting :
     (before : Terms → Terms → Bool) (f : Option (ℕ × List Placement)) (old : ℕ × List Placement) →
     (refusal_number (said_done (adopted before f)) ≡ 0 → ⊥) → taken before f old ≡ old
-adopting before None old refused = refl
-adopting before (Some plan) old refused = go (passes before plan.0 plan.1) refused
-  where
-    go : (b : Bool) → (refusal_number (said_done (cond b (Ok tt) (Err PlanFails))) ≡ 0 → ⊥) → cond b plan old ≡ old
-    go true refused' = absurd (refused' refl)
-    go false refused' = refl
+adopting before f old refused = grind (arith, common_steps)
 
 -- the output with its own bytes in a space
 same_space : (start size : ℕ) (out : List ℕ) → with_space start size (space_at start size out) out ≡ out
-same_space start size out =
-    ap (λ (v : List ℕ). take start out ++ (take size (drop start out) ++ v)) (sym (drop-drop size start out))
-    ∙ ap (λ (v : List ℕ). take start out ++ v) (take-append-drop size (drop start out)) ∙ take-append-drop start out
+same_space start size out = rw (← drop-drop size start out) (simp take-append-drop)
 
 writing :
     (code m : ℕ) (ps : List Placement) (space : List ℕ) →
     (refusal_number (said_written (cond (leb (file_length ps) (length space)) (Ok (file_length ps)) (Err Short))) ≡ 0 → ⊥) →
     write_bytes code m ps space ≡ space
-writing code m ps space = go (leb (file_length ps) (length space))
-  where
-    go : (b : Bool) → (refusal_number (said_written (cond b (Ok (file_length ps)) (Err Short))) ≡ 0 → ⊥) → cond b (file_of code m ps ++ drop (file_length ps) space) space ≡ space
-    go true refused = absurd (refused refl)
-    go false refused = refl
+writing code m ps space refused = grind (arith, common_steps)
 
 module _ (before : Terms → Terms → Bool) (turns : ℕ → List ℕ → List ℕ) (code : ℕ) where
   pub refused_same : (s : State) (c : Call) → (refusal_number (answer_of before turns code s c) ≡ 0 → ⊥) → after before turns code s c ≡ s

@@ -1,7 +1,7 @@
 use terms::Draft;
 
 // A call to a plan, with its arguments.
-#[derive(Drop)]
+#[derive(Clone, Copy)]
 pub enum Call<'a> {
     Place(Draft),
     Pin {

@@ -27,7 +27,8 @@ fn write_at<R: Precedence + Drop, O: SearchOrder + Drop>(
     plan.write(&mut out[from..from + most])
 }
 
-// Carries out one call.
+// Carries out one call. The plan and the output stay two parameters: only a write touches the output, so a struct of
+// both would hide which call changes what.
 fn carry_one<R: Precedence + Drop, O: SearchOrder + Drop>(
     plan: &mut Plan<R, O>,
     call: &Call,
@@ -37,9 +38,9 @@ fn carry_one<R: Precedence + Drop, O: SearchOrder + Drop>(
     ensures same { (plan.new.rule ≡ plan.old.rule) × (plan.new.order ≡ plan.old.order) }
 {
     match call {
-        Call::Place(draft) => plan.place(*draft).map(|(primary, standby, status)| Outcome::Placed(
-            primary, standby, status,
-        )),
+        Call::Place(draft) => plan.place(*draft).map(|(primary, standby, status)| {
+            Outcome::Placed(primary, standby, status)
+        }),
         Call::Pin {
             draft,
             primary,
@@ -50,11 +51,9 @@ fn carry_one<R: Precedence + Drop, O: SearchOrder + Drop>(
             .map(|_| Outcome::Done),
         Call::Withdraw(number) => plan.withdraw(*number).map(|_| Outcome::Done),
         Call::Adopt(bytes) => plan.adopt(bytes).map(|_| Outcome::Done),
-        Call::Figures(number) => plan.figures(*number).map(|(
-            quiet,
-            largest,
-            standby,
-        )| Outcome::Figures(quiet, largest, standby)),
+        Call::Figures(number) => plan.figures(*number).map(|(quiet, largest, standby)| {
+            Outcome::Figures(quiet, largest, standby)
+        }),
         Call::Write { start, size } => write_at(plan, *start, *size, out).map(Outcome::Written),
     }
 }
@@ -71,6 +70,7 @@ fn carry_all<R: Precedence + Drop, O: SearchOrder + Drop>(
     ensures carried { AllCarried (R.Precedence.before plan.old.rule) (O.SearchOrder.turns plan.old.order) R.Precedence.code (state_of plan.old.roster out.old) calls.now answers.new (state_of plan.new.roster out.new) }
     ensures same { (plan.new.rule ≡ plan.old.rule) × (plan.new.order ≡ plan.old.order) }
 {
+    // answers by index: after a `zip` with `iter_mut` a proof no longer knows what was written
     for (i, call) in calls.iter().enumerate() {
         answers[i] = carry_one(plan, call, out);
     }

@@ -1,8 +1,8 @@
-use Rattle.std.proofs.Common.{rules, ◌≡◌, ℕ, ◌≤◌, true, ◌++◌, length, take, drop, vec_items, sym, ap, ◌∙◌, arith}
+use Rattle.std.proofs.Common.{rules, ◌≡◌, ℕ, true, ◌++◌, length, take, drop, vec_items, sym, ap, ◌∙◌}
 use Rattle.std.proofs.Math.Seq.{take-append_seam}
 use Rattle.planner.specs.Answers.{is_count}
 use Rattle.calls.specs.Calls.{state_of, fresh}
-use Rattle.calls.proofs.Promised.{counted, opened_fresh, promised}
+use Rattle.calls.proofs.Promised.{opened_fresh, promised}
 use Rattle.calls.proofs.carry.carry_out.Goals as goal
 
 pub returns-clause-promise : goal.returns-clause-promise
