@@ -5,7 +5,7 @@ use Rattle.std.proofs.lemmas.List.{get_or_default}
 use Rattle.std.proofs.lemmas.Bool.{and_parts, cond_both, lt-ltb, ltb-true, not_from_false}
 use Rattle.terms.specs.declared.terms.Terms.{Terms}
 use Rattle.terms.specs.declared.refusal.Refusal.{Refusal}
-use Rattle.terms.specs.declared.refusal.Refusal.TheVariants.{NoPlace, Pin}
+use Rattle.terms.specs.declared.refusal.Refusal.TheVariants.{NoPlace}
 use Rattle.rack.specs.declared.placement.Status.{Status}
 use Rattle.rack.specs.declared.placement.Placement.{Placement}
 use Rattle.rack.specs.Plan.{In, number}
@@ -20,7 +20,7 @@ use Rattle.roster.proofs.Jobs.{in_with_job, find_none, without_part}
 use Rattle.roster.proofs.Ordered.{rising_once, rising_with_job, rising_without}
 use Rattle.plantest.proofs.Listings.{placed_true}
 use Rattle.first_fit.specs.Choices.{Choice, placement_of, passes_beside, first_choice}
-use Rattle.planner.specs.Answers.{admitted_terms, chosen, jobs_with, pinned}
+use Rattle.planner.specs.Answers.{admitted_terms, chosen, jobs_with}
 use Rattle.planner.specs.Refused.{NoChoice, NoneBesideMore}
 use Rattle.first_fit.specs.Trying.{tried, tried_at, choice_jobs, tried_first}
 use Rattle.first_fit.proofs.Firsts.{choice_some, choice_none, choice_same}
@@ -68,12 +68,6 @@ module _ (before : Terms → Terms → Bool) (m : ℕ) (ps : List Placement) (t 
   tried_is p b status =
       ap (λ x. (x && (ltb (length ps) 96 && placed m (placement_of t p b status))) && passes_beside before m ps t p status b) (not_from_false _ new)
       ∙ ap (λ x. (x && placed m (placement_of t p b status)) && passes_beside before m ps t p status b) (lt-ltb (length ps) 96 room)
-
-  -- a pinned choice is that which is tried
-  pub pinned_is :
-      (p b : ℕ) (status : Status) →
-      pinned before m ps t p b (Some status) ≡ cond (tried before m ps (placement_of t p b status)) (Ok (p, b, status)) (Err Pin)
-  pinned_is p b status = ap (λ (x : Bool). cond x (Ok (p, b, status)) (Err Pin)) (sym (tried_is p b status))
 
   module _ (turns : List ℕ) (each : EachOnce m turns) where
     -- what has a turn is a machine
