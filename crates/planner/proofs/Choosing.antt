@@ -60,6 +60,18 @@ pub chosen_refused : (o : Option Choice) → chosen o ≡ Err NoPlace → o ≡ 
 chosen_refused None e = refl
 chosen_refused (Some c) e = let z : ◌≡◌ {A = ℕ} 0 1 = cc in absurd (omega arith)
 
+-- the plan with the first choice that was tried with success passes
+pub choice_passes :
+    (before : Terms → Terms → Bool) (m k : ℕ) (ps qs : List Placement) (t : Terms) (turns : List ℕ) (o : Option Choice) →
+    o ≡ tried_first before m ps t turns → k ≡ m → qs ≡ choice_jobs t ps o → passes before m ps ≡ true → passes before k qs ≡ true
+unfolding tried_first
+choice_passes before m k ps qs t turns None e same jobs pass = ap (λ n. passes before n qs) same ∙ ap (passes before m) jobs ∙ pass
+choice_passes before m k ps qs t turns (Some c) e same jobs pass =
+    let own = placement_of t c.0 c.1 c.2 in
+    let s = choice_some (tried_at before m ps t) turns turns c (sym e) in
+    let fits = (and_parts (addable m ps own) (passes before m (with_job own ps)) s.3).1 in
+    ap (λ n. passes before n qs) same ∙ ap (passes before m) jobs ∙ fits
+
 module _ (before : Terms → Terms → Bool) (m : ℕ) (ps : List Placement) (t : Terms) (new : is_some (find t.number ps) ≡ false) (room : length ps < 96) where
   -- a new job is tried as its machines are and its plan passes
   pub tried_is :
