@@ -1,5 +1,6 @@
 -- What a plan file holds, a roster may hold.
-use Rattle.std.proofs.Common.{◌≡◌, ℕ, zero, suc, ◌+◌, ◌/◌, ◌%◌, ◌<◌, ◌≤◌, Bool, true, false, cond, ◌&&◌, eqb, ltb, leb, ◌⊎◌, List, [], ◌∷◌, length, Some, None, Option, sym, refl, ap, ◌∙◌, subst, inl, inr, arith}
+use Rattle.std.proofs.Common.{◌≡◌, ℕ, zero, suc, ◌+◌, ◌/◌, ◌%◌, ◌<◌, ◌≤◌, Bool, true, false, cond, ◌&&◌, eqb, ltb, leb, List, [], ◌∷◌, length, Some, None, Option, sym, refl, ap, ◌∙◌, subst, arith}
+use Rattle.std.proofs.lemmas.Option.{none-some, same_Some, cond_some}
 use Rattle.std.proofs.lemmas.Bool.{and_parts, and_from, ltb-true, ltb-false, lt-ltb, le-leb, ne_eqb, not_from_false, cond_both}
 use Rattle.terms.specs.declared.draft.Draft.{Draft}
 use Rattle.rack.specs.declared.placement.Placement.{Placement}
@@ -12,15 +13,9 @@ use Rattle.planfile.proofs.Places.{placed_so, machines_are}
 use Rattle.roster.specs.Rising.{rising_from, placed, all_placed}
 use Rattle.roster.specs.Taking.{holdable}
 
-split : {A : Type 0} (b : Bool) (x y z : A) → cond b x y ≡ z → ((b ≡ true) × (x ≡ z)) ⊎ ((b ≡ false) × (y ≡ z))
-split true x y z e = inl (refl, e)
-split false x y z e = inr (refl, e)
-
-none_some : {A : Type 0} (x : A) (P : Type 0) → None ≡ Some x → P
-none_some x P e = let z : ◌≡◌ {A = ℕ} 0 1 = cc in absurd (let f : ⊥ = omega arith in f)
-
-same_some : {A : Type 0} (x y : A) → Some x ≡ Some y → x ≡ y
-same_some x y e = cc
+if_some : {A : Type 0} (b : Bool) (o : Option A) (x : A) → cond b o None ≡ Some x → (b ≡ true) × (o ≡ Some x)
+if_some true o x e = (refl, e)
+if_some false o x e = absurd (none-some x e)
 
 -- the two machines of a pair differ
 apart : (q : ℕ) → primary_of q ≡ standby_of q → ⊥
@@ -53,52 +48,42 @@ module _ (m : ℕ) where
       (a : Option Placement) → admitted m last jobs d q s ≡ a →
       (o : Option (List Placement)) → onward d.number (jobs + 1) notes xs ≡ o →
       after_job a o ≡ Some ps → Held m last jobs ps
-  after last jobs notes onward d q s xs ps holds None is o go so = none_some ps (Held m last jobs ps) so
-  after last jobs notes onward d q s xs ps holds (Some p) is None go so = none_some ps (Held m last jobs ps) so
+  after last jobs notes onward d q s xs ps holds None is o go so = absurd (none-some ps so)
+  after last jobs notes onward d q s xs ps holds (Some p) is None go so = absurd (none-some ps so)
   after last jobs notes onward d q s xs ps holds (Some p) is (Some qs) go so =
-      elim (split (ltb jobs 96 && ltb last d.number) (placement_of m d q s) None (Some p) is) [
-        | inl w ↦
-            let tests = and_parts (ltb jobs 96) (ltb last d.number) w.0 in
-            let room : jobs < 96 = ltb-true jobs 96 tests.0 in
-            let stands = placed_so m d q s p w.1 in
-            let same : number p ≡ d.number = stands.terms.number in
-            let rest = holds d.number (jobs + 1) notes xs qs (omega arith) go in
-            subst (λ (v : List Placement). Held m last jobs v) (same_some (p ∷ qs) ps so)
-            (record {
-              rising = and_from _ _ (ap (ltb last) same ∙ tests.1) (ap (λ n. rising_from n qs) same ∙ rest.rising);
-              placed = and_from _ _ (places_placed m d q s p stands) rest.placed;
-              few = omega (arith, rest.few);
-            })
-        | inr w ↦ none_some p (Held m last jobs ps) w.1
-      ]
+      let w = if_some (ltb jobs 96 && ltb last d.number) (placement_of m d q s) p is in
+      let tests = and_parts (ltb jobs 96) (ltb last d.number) w.0 in
+      let room : jobs < 96 = ltb-true jobs 96 tests.0 in
+      let stands = placed_so m d q s p w.1 in
+      let same : number p ≡ d.number = stands.terms.number in
+      let rest = holds d.number (jobs + 1) notes xs qs (omega arith) go in
+      subst (λ (v : List Placement). Held m last jobs v) (same_Some (p ∷ qs) ps so)
+      (record {
+        rising = and_from _ _ (ap (ltb last) same ∙ tests.1) (ap (λ n. rising_from n qs) same ∙ rest.rising);
+        placed = and_from _ _ (places_placed m d q s p stands) rest.placed;
+        few = omega (arith, rest.few);
+      })
 
   judged :
       (last jobs notes : ℕ) (onward : Onward) (r : Rec) (xs : List ℕ) (ps : List Placement) → Holds onward → jobs ≤ 96 →
       judge m last jobs notes onward r xs ≡ Some ps → Held m last jobs ps
-  judged last jobs notes onward (head code k) xs ps holds few so = none_some ps (Held m last jobs ps) so
+  judged last jobs notes onward (head code k) xs ps holds few so = absurd (none-some ps so)
   judged last jobs notes onward (job d q s) xs ps holds few so =
       after last jobs notes onward d q s xs ps holds (admitted m last jobs d q s) refl (onward d.number (jobs + 1) notes xs) refl so
   judged last jobs notes onward (note text) xs ps holds few so =
-      elim (split (ltb notes 64) (onward last jobs (notes + 1) xs) None (Some ps) so) [
-        | inl w ↦ holds last jobs (notes + 1) xs ps few w.1
-        | inr w ↦ none_some ps (Held m last jobs ps) w.1
-      ]
+      holds last jobs (notes + 1) xs ps few (if_some (ltb notes 64) (onward last jobs (notes + 1) xs) ps so).1
   judged last jobs notes onward end xs ps holds few so =
-      elim (split (eqb (length xs) 0) (Some []) None (Some ps) so) [
-        | inl w ↦
-            subst (λ (v : List Placement). Held m last jobs v) (same_some [] ps w.1)
-            (record { rising = refl; placed = refl; few = omega arith })
-        | inr w ↦ none_some ps (Held m last jobs ps) w.1
-      ]
+      subst (λ (v : List Placement). Held m last jobs v) (cond_some (eqb (length xs) 0) [] ps so).1
+      (record { rising = refl; placed = refl; few = omega arith })
 
   first_judged :
       (last jobs notes : ℕ) (onward : Onward) (o : Option (Rec × List ℕ)) (ps : List Placement) → Holds onward → jobs ≤ 96 →
       judge_first m last jobs notes onward o ≡ Some ps → Held m last jobs ps
-  first_judged last jobs notes onward None ps holds few so = none_some ps (Held m last jobs ps) so
+  first_judged last jobs notes onward None ps holds few so = absurd (none-some ps so)
   first_judged last jobs notes onward (Some x) ps holds few so = judged last jobs notes onward x.0 x.1 ps holds few so
 
   within_holds : (n : ℕ) → Holds (body_within n m)
-  within_holds zero last jobs notes xs ps few so = none_some ps (Held m last jobs ps) so
+  within_holds zero last jobs notes xs ps few so = absurd (none-some ps so)
   within_holds (suc n) last jobs notes xs ps few so =
       first_judged last jobs notes (body_within n m) (parse_record xs) ps (within_holds n) few so
 
@@ -109,9 +94,8 @@ module _ (m : ℕ) where
 
 under_holdable :
     (k : ℕ) (qs : List Placement) (m : ℕ) (ps : List Placement) → (leb 2 k && leb k 16) ≡ true → Held k 0 0 qs →
-    ◌≡◌ {A = Option (ℕ × List Placement)} (Some (k, qs)) (Some (m, ps)) → holdable m ps ≡ true
-under_holdable k qs m ps sizes held so =
-    let both : ◌≡◌ {A = ℕ × List Placement} (k, qs) (m, ps) = same_some (k, qs) (m, ps) so in
+    ◌≡◌ {A = ℕ × List Placement} (k, qs) (m, ps) → holdable m ps ≡ true
+under_holdable k qs m ps sizes held both =
     let few : length qs ≤ 96 = omega (arith, held.few) in
     subst (λ (v : ℕ × List Placement). holdable v.0 v.1 ≡ true) both
     (and_from _ _ sizes (and_from _ _ (le-leb (length qs) 96 few) (and_from _ _ held.rising held.placed)))
@@ -120,26 +104,21 @@ head_holdable :
     (code c k : ℕ) (xs : List ℕ) (m : ℕ) (ps : List Placement) (o : Option (List Placement)) → body_of k 0 0 0 xs ≡ o →
     cond (eqb c code && (leb 2 k && leb k 16)) (on_machines k o) None ≡ Some (m, ps) → holdable m ps ≡ true
 head_holdable code c k xs m ps None is so =
-    elim (split (eqb c code && (leb 2 k && leb k 16)) None None (Some (m, ps)) so) [
-      | inl w ↦ none_some (m, ps) (holdable m ps ≡ true) w.1
-      | inr w ↦ none_some (m, ps) (holdable m ps ≡ true) w.1
-    ]
+    absurd (none-some (m, ps) (if_some (eqb c code && (leb 2 k && leb k 16)) None (m, ps) so).1)
 head_holdable code c k xs m ps (Some qs) is so =
-    elim (split (eqb c code && (leb 2 k && leb k 16)) (Some (k, qs)) None (Some (m, ps)) so) [
-      | inl w ↦ under_holdable k qs m ps (and_parts (eqb c code) (leb 2 k && leb k 16) w.0).1 (body_held k xs qs is) w.1
-      | inr w ↦ none_some (m, ps) (holdable m ps ≡ true) w.1
-    ]
+    let w = cond_some (eqb c code && (leb 2 k && leb k 16)) (k, qs) (m, ps) so in
+    under_holdable k qs m ps (and_parts (eqb c code) (leb 2 k && leb k 16) w.0).1 (body_held k xs qs is) w.1
 
 first_holdable :
     (code : ℕ) (r : Rec) (xs : List ℕ) (m : ℕ) (ps : List Placement) → under_head code r xs ≡ Some (m, ps) → holdable m ps ≡ true
 first_holdable code (head c k) xs m ps so = head_holdable code c k xs m ps (body_of k 0 0 0 xs) refl so
-first_holdable code (job d q s) xs m ps so = none_some (m, ps) (holdable m ps ≡ true) so
-first_holdable code (note text) xs m ps so = none_some (m, ps) (holdable m ps ≡ true) so
-first_holdable code end xs m ps so = none_some (m, ps) (holdable m ps ≡ true) so
+first_holdable code (job d q s) xs m ps so = absurd (none-some (m, ps) so)
+first_holdable code (note text) xs m ps so = absurd (none-some (m, ps) so)
+first_holdable code end xs m ps so = absurd (none-some (m, ps) so)
 
 by_head_holdable :
     (code : ℕ) (o : Option (Rec × List ℕ)) (m : ℕ) (ps : List Placement) → by_head code o ≡ Some (m, ps) → holdable m ps ≡ true
-by_head_holdable code None m ps so = none_some (m, ps) (holdable m ps ≡ true) so
+by_head_holdable code None m ps so = absurd (none-some (m, ps) so)
 by_head_holdable code (Some x) m ps so = first_holdable code x.0 x.1 m ps so
 
 -- whatever bytes are read as a plan

@@ -5,7 +5,7 @@ use Rattle.std.proofs.lemmas.List.{get_or_default}
 use Rattle.std.proofs.lemmas.Bool.{and_parts, cond_both, lt-ltb, ltb-true, not_from_false}
 use Rattle.terms.specs.declared.terms.Terms.{Terms}
 use Rattle.terms.specs.declared.refusal.Refusal.{Refusal}
-use Rattle.terms.specs.declared.refusal.Refusal.TheVariants.{NoPlace, Pin}
+use Rattle.terms.specs.declared.refusal.Refusal.TheVariants.{NoPlace}
 use Rattle.rack.specs.declared.placement.Status.{Status}
 use Rattle.rack.specs.declared.placement.Placement.{Placement}
 use Rattle.rack.specs.Plan.{In, number}
@@ -20,7 +20,7 @@ use Rattle.roster.proofs.Jobs.{in_with_job, find_none, without_part}
 use Rattle.roster.proofs.Ordered.{rising_once, rising_with_job, rising_without}
 use Rattle.plantest.proofs.Listings.{placed_true}
 use Rattle.first_fit.specs.Choices.{Choice, placement_of, passes_beside, first_choice}
-use Rattle.planner.specs.Answers.{admitted_terms, chosen, jobs_with, pinned}
+use Rattle.planner.specs.Answers.{admitted_terms, chosen, jobs_with}
 use Rattle.planner.specs.Refused.{NoChoice, NoneBesideMore}
 use Rattle.first_fit.specs.Trying.{tried, tried_at, choice_jobs, tried_first}
 use Rattle.first_fit.proofs.Firsts.{choice_some, choice_none, choice_same}
@@ -60,6 +60,18 @@ pub chosen_refused : (o : Option Choice) → chosen o ≡ Err NoPlace → o ≡ 
 chosen_refused None e = refl
 chosen_refused (Some c) e = let z : ◌≡◌ {A = ℕ} 0 1 = cc in absurd (omega arith)
 
+-- the plan with the first choice that was tried with success passes
+pub choice_passes :
+    (before : Terms → Terms → Bool) (m k : ℕ) (ps qs : List Placement) (t : Terms) (turns : List ℕ) (o : Option Choice) →
+    o ≡ tried_first before m ps t turns → k ≡ m → qs ≡ choice_jobs t ps o → passes before m ps ≡ true → passes before k qs ≡ true
+unfolding tried_first
+choice_passes before m k ps qs t turns None e same jobs pass = ap (λ n. passes before n qs) same ∙ ap (passes before m) jobs ∙ pass
+choice_passes before m k ps qs t turns (Some c) e same jobs pass =
+    let own = placement_of t c.0 c.1 c.2 in
+    let s = choice_some (tried_at before m ps t) turns turns c (sym e) in
+    let fits = (and_parts (addable m ps own) (passes before m (with_job own ps)) s.3).1 in
+    ap (λ n. passes before n qs) same ∙ ap (passes before m) jobs ∙ fits
+
 module _ (before : Terms → Terms → Bool) (m : ℕ) (ps : List Placement) (t : Terms) (new : is_some (find t.number ps) ≡ false) (room : length ps < 96) where
   -- a new job is tried as its machines are and its plan passes
   pub tried_is :
@@ -68,12 +80,6 @@ module _ (before : Terms → Terms → Bool) (m : ℕ) (ps : List Placement) (t 
   tried_is p b status =
       ap (λ x. (x && (ltb (length ps) 96 && placed m (placement_of t p b status))) && passes_beside before m ps t p status b) (not_from_false _ new)
       ∙ ap (λ x. (x && placed m (placement_of t p b status)) && passes_beside before m ps t p status b) (lt-ltb (length ps) 96 room)
-
-  -- a pinned choice is that which is tried
-  pub pinned_is :
-      (p b : ℕ) (status : Status) →
-      pinned before m ps t p b (Some status) ≡ cond (tried before m ps (placement_of t p b status)) (Ok (p, b, status)) (Err Pin)
-  pinned_is p b status = ap (λ (x : Bool). cond x (Ok (p, b, status)) (Err Pin)) (sym (tried_is p b status))
 
   module _ (turns : List ℕ) (each : EachOnce m turns) where
     -- what has a turn is a machine

@@ -1,3 +1,4 @@
+pub mod Made
 pub mod Choosing
 pub mod Adopts
 pub mod Taking

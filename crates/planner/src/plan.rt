@@ -1,4 +1,5 @@
-ghost use Rattle.std.specs.Prelude.{◌≡◌, [], IfOk};
+ghost use Rattle.std.specs.Prelude.{◌≡◌, true, [], IfOk};
+ghost use Rattle.rack.specs.Test.{passes};
 
 use crate::incoming::Incoming;
 use first_fit::Latenesses;
@@ -19,6 +20,8 @@ pub struct Plan<R: Precedence, O: SearchOrder> {
     // a file that is being adopted
     pub(crate) spare: Roster,
     pub(crate) incoming: Incoming,
+    // every plan passes: an empty one does, and each call keeps it so
+    ghost passing: { passes (R.Precedence.before rule) roster.machines roster.placements.items ≡ true },
 }
 
 impl<R: Precedence + Drop, O: SearchOrder + Drop> Plan<R, O> {
