@@ -61,6 +61,7 @@ impl<'a, R: Precedence> Known<'a, R> {
     pub(crate) fn machine_fits(&self, g: u8, copies: &mut Copies) -> bool
         ensures { result ≡ machine_passes (R.Precedence.before self.now.tested.now.rule.now) self.now.tested.now.machines self.now.tested.now.placements.now g }
     {
+        // `all` left its goal open: the closure would change `copies`, and std's lemmas ask that no call changes it.
         for f in 0..self.tested.machines {
             if !self.lost_fits(g, f, copies) {
                 return false;
