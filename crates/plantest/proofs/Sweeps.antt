@@ -1,14 +1,16 @@
 -- The sweep, step by step, and that it is the plan test.
-use Rattle.std.proofs.Common.{◌≡◌, ℕ, ◌<◌, Bool, true, false, not, ◌&&◌, ◌||◌, eqb, List, [], ◌∷◌, ◌⊎◌, map, is_some, Option, sym, refl, ap, ◌∙◌, ⊎_elim}
+use Rattle.std.proofs.Common.{◌≡◌, ℕ, ◌+◌, ◌<◌, Bool, true, false, not, ◌&&◌, ◌||◌, eqb, List, [], ◌∷◌, ◌++◌, ◌⊎◌, map, length, get_or, take, is_some, Some, Option, unwrap_or, sym, refl, ap, ◌∙◌, ⊎_elim}
+use Rattle.std.proofs.lemmas.List as lists
+use Rattle.std.proofs.lemmas.List.{get_or-map, length-map}
 use Rattle.std.proofs.lemmas.Bool.{and_from, and_parts, and_left, and_right, or_right, both_ways, cases_eq, eq-eqb, eqb-true, ne_eqb}
 use Rattle.terms.specs.declared.terms.Terms.{Terms}
 use Rattle.figures.specs.declared.copies.JobCopy.{JobCopy}
 use Rattle.figures.specs.Figure.{figure_of}
 use Rattle.rack.specs.declared.placement.Placement.{Placement}
 use Rattle.rack.specs.Plan.{In, Arranged}
-use Rattle.rack.specs.Sets.{primary_copy, standby_copy, passive_late, loss}
+use Rattle.rack.specs.Sets.{primary_copy, standby_copy, quiet_figure, passive_late, loss}
 use Rattle.rack.specs.Test.{all_of, all_below, loss_figure, standby_figure, Passes, passes}
-use Rattle.rack.proofs.Tested.{all_of_each, each_all_of, all_below_each, each_all_below, all_below_part_false, passes_means, passes_true}
+use Rattle.rack.proofs.Tested.{all_of_more, all_of_each, each_all_of, all_below_each, each_all_below, all_below_part_false, passes_means, passes_true}
 use Rattle.plantest.specs.Parts.{loss_with}
 use Rattle.plantest.specs.Sweep.{has_quiet, pair_fits, pair_passes, lost_passes, machine_passes, quiet_passes, sweep, late_fits, all_fit}
 use Rattle.plantest.proofs.Gathers.{loss_is}
@@ -130,3 +132,26 @@ loss_found before ps lates set g f own copy r is gathered figures same =
     is
     ∙ ap (λ s. figure_of before s own) (gathered ∙ ap (λ l. loss_with l g f ps) figures ∙ loss_is before ps ps g f)
     ∙ ap (λ o. figure_of before (loss before ps g f) o) same
+
+-- what a loop over a plan's latenesses needs
+pub map_length : {A B : Type 0} (f : A → B) (xs : List A) → length (map f xs) ≡ length xs
+map_length f xs = length-map xs f
+
+pub map_at : {A : Type 0} (f : A → ℕ) (xs : List A) (n : ℕ) (x : A) → n < length xs → x ≡ get_or xs n x → get_or (map f xs) n 0 ≡ f x
+map_at f xs n x lt read = get_or-map f xs n x 0 lt ∙ ap f (sym read)
+
+pub map_more : {A B : Type 0} (f : A → B) (xs : List A) (n : ℕ) (x : A) → n < length xs → x ≡ get_or xs n x → map f (take (n + 1) xs) ≡ map f (take n xs) ++ f x ∷ []
+map_more f xs n x lt read = lists.map_more f xs n x lt ∙ ap (λ z. map f (take n xs) ++ f z ∷ []) (sym read)
+
+pub lates_long : (before : Terms → Terms → Bool) (ps : List Placement) (lates : List ℕ) → lates ≡ map (passive_late before ps) ps → length lates ≡ length ps
+lates_long before ps lates figures = ap length figures ∙ map_length (passive_late before ps) ps
+
+module _ (before : Terms → Terms → Bool) where
+  -- the figure, where there is one, is the passive lateness
+  pub passive_found : (ps : List Placement) (p : Placement) (late : ℕ) → Some late ≡ quiet_figure before ps p → late ≡ passive_late before ps p
+  passive_found ps p late is = ap (λ r. unwrap_or r p.terms.deadline) is
+
+  -- a figure more
+  pub quiet_more : (all ps : List Placement) (n : ℕ) (p : Placement) (late : ℕ) → n < length ps → p ≡ get_or ps n p → Some late ≡ quiet_figure before all p → all_of (has_quiet before all) (take n ps) ≡ true → all_of (has_quiet before all) (take (n + 1) ps) ≡ true
+  quiet_more all ps n p late lt read is so_far =
+      all_of_more (has_quiet before all) ps n p lt read ∙ and_from _ _ so_far (ap is_some (sym is))

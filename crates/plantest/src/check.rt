@@ -20,6 +20,7 @@ impl<'a, R: Precedence> Tested<'a, R> {
         let Some(known) = Known::of_quiet(self, copies, lates) else {
             return false;
         };
+        // No `all`, as in `machine_fits`.
         for g in 0..self.machines {
             if !known.machine_fits(g, copies) {
                 return false;

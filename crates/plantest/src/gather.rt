@@ -56,10 +56,15 @@ fn passive_copy(p: &Placement, late: u32, g: u8, f: u8) -> Option<JobCopy>
     ensures { option_to_list result ≡ passive_part late g f p.now }
 {
     match p.status {
-        Status::Passive if p.standby == g && p.primary == f => {
-            Some(copy_of(Role::Standby, p, late))
+        // a guard here in place of the `if` made the full test slower
+        Status::Passive => {
+            if p.standby == g && p.primary == f {
+                Some(copy_of(Role::Standby, p, late))
+            } else {
+                None
+            }
         }
-        _ => None,
+        Status::Active => None,
     }
 }
 

@@ -6,7 +6,8 @@ use crate::tested::Tested;
 use crate::workspace::{Copies, Lates};
 use precedence::Precedence;
 
-// A plan under test, and how late each of its standbys is while it is passive.
+// A plan under test, and how late each of its standbys is while it is passive. The latenesses stand beside the
+// placements, since they fill the workspace's memory and the placements are a roster's or a caller's.
 #[derive(Drop)]
 pub(crate) struct Known<'a, R: Precedence> {
     pub(crate) tested: &'a Tested<'a, R>,
@@ -15,7 +16,7 @@ pub(crate) struct Known<'a, R: Precedence> {
 }
 
 impl<'a, R: Precedence> Known<'a, R> {
-    // Of any plan.
+    // Of any plan. `collect` would ask for new memory.
     pub(crate) fn of(
         tested: &'a Tested<'a, R>,
         copies: &mut Copies,

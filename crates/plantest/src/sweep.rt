@@ -14,13 +14,20 @@ use precedence::Precedence;
 use rack::Placement;
 
 // Whether the job's copies that stand in this loss set have figures there.
-fn fits_in<R: Precedence>(rule: &R, set: &[JobCopy], p: &Placement, late: u32, g: u8, f: u8) -> bool
-    ensures { result ≡ copies_fit (R.Precedence.before rule.now) set.now (copy_of Standby p.now (if active p.now.status then p.now.terms.lateness else late)) g f p.now }
+fn fits_in<R: Precedence>(
+    rule: &R,
+    set: &[JobCopy],
+    p: &Placement,
+    late: &u32,
+    g: u8,
+    f: u8,
+) -> bool
+    ensures { result ≡ copies_fit (R.Precedence.before rule.now) set.now (copy_of Standby p.now (if active p.now.status then p.now.terms.lateness else late.now)) g f p.now }
 {
     if p.primary == g && figure(rule, set, &primary_copy(p)).is_none() {
         return false;
     }
-    if p.standby == g && p.primary == f && figure(rule, set, &standby_copy(p, late)).is_none() {
+    if p.standby == g && p.primary == f && figure(rule, set, &standby_copy(p, *late)).is_none() {
         return false;
     }
     true
@@ -34,7 +41,7 @@ impl<'a, R: Precedence> Tested<'a, R> {
     {
         self.gather_loss(lates, g, f, copies);
         for (p, late) in self.placements.iter().zip(lates) {
-            if !fits_in(self.rule, copies.as_slice(), p, *late, g, f) {
+            if !fits_in(self.rule, copies.as_slice(), p, late, g, f) {
                 return false;
             }
         }
@@ -61,6 +68,7 @@ impl<'a, R: Precedence> Known<'a, R> {
     pub(crate) fn machine_fits(&self, g: u8, copies: &mut Copies) -> bool
         ensures { result ≡ machine_passes (R.Precedence.before self.now.tested.now.rule.now) self.now.tested.now.machines self.now.tested.now.placements.now g }
     {
+        // `all` left its goal open: the closure would change `copies`, and std's lemmas ask that no call changes it.
         for f in 0..self.tested.machines {
             if !self.lost_fits(g, f, copies) {
                 return false;

@@ -1,7 +1,7 @@
 ghost use Rattle.std.specs.Prelude.{◌≡◌};
 ghost use Rattle.plantest.specs.Numbers.{verdict_number};
 
-// What the test says of a list of placements.
+// What the test says of a list of placements: one of three, so neither an Option nor a Result.
 #[derive(Clone, Copy, PartialEq, Eq, Debug)]
 pub enum Verdict {
     // It is no plan: a wrong machine count, too many jobs, a number twice, or machines that are none.
