@@ -21,6 +21,7 @@ pub struct Plan<R: Precedence, O: SearchOrder> {
     pub(crate) spare: Roster,
     pub(crate) incoming: Incoming,
     // every plan passes: an empty one does, and each call keeps it so
+    // (the calls' clauses `same` and `keeps` stay: crate calls cites them, and a name for them would take five arguments)
     ghost passing: { passes (R.Precedence.before rule) roster.machines roster.placements.items ≡ true },
 }
 
