@@ -1,4 +1,5 @@
 -- A job's place by the library's `position`, and the recursions over job numbers.
+use Rattle.std.specs.Prelude.{Option}
 use Rattle.std.proofs.Common.{◌≡◌, ℕ, suc, ◌+◌, ◌≤◌, Bool, true, false, cond, not, eqb, ltb, List, [], ◌∷◌, length, Some, None, MatchOption, sym, refl, ap, ◌∙◌, arith}
 use Rattle.std.specs.Option.{unwrap_or}
 use Rattle.std.specs.List as list
@@ -15,12 +16,12 @@ use Rattle.roster.proofs.Climb.{climbs}
 use Rattle.roster.specs.Changes.{find, with_job, without, Stands, Absent}
 
 -- the place of the first that passes, or the length
-pub position-or-length : (test : Placement → Bool) (ps : List Placement) → unwrap_or (position test ps) (length ps) ≡ position_or_len test ps
+position-or-length : (test : Placement → Bool) (ps : List Placement) → unwrap_or (position test ps) (length ps) ≡ position_or_len test ps
 position-or-length test ps =
     grind (arith, prefix_len-le-length (λ p. not (test p)) ps)
 
 -- a job is put in before the first of a larger number
-pub with_job_place :
+with_job_place :
     (p : Placement) (ps : List Placement) → insert ps (position_or_len (climbs p) ps) p ≡ with_job p ps
 with_job_place p [] = refl
 with_job_place p (x ∷ ps) =
@@ -33,13 +34,18 @@ with_job_place p (x ∷ ps) =
     one true xs more k e = refl
     one false xs more k e = let next : 1 + k ≡ suc k = omega arith in rw next (ap (λ l. x ∷ l) e)
 
+-- the same of the place that `position` and the length give
+pub placed_before_larger :
+    (p : Placement) (ps : List Placement) (k : ℕ) → k ≡ unwrap_or (position (climbs p) ps) (length ps) → insert ps k p ≡ with_job p ps
+placed_before_larger p ps k at = ap (λ i. insert ps i p) (at ∙ position-or-length (climbs p) ps) ∙ with_job_place p ps
+
 module _ (n : ℕ) where
   -- whether it is the job with this number
   abbrev pub has : Placement → Bool
   has p = eqb (number p) n
 
   -- the library finds the same
-  pub find_same : (ps : List Placement) → list.find has ps ≡ find n ps
+  find_same : (ps : List Placement) → list.find has ps ≡ find n ps
   find_same = same_from_clauses (list.find has) (find n) (λ p rest. cond (has p) (Some p) rest) refl (λ _ _. refl) (λ _ _. refl)
 
   -- the first with the number is taken out
@@ -55,7 +61,7 @@ module _ (n : ℕ) where
       one false xs less k e = let next : 1 + k ≡ suc k = omega arith in rw next (ap (λ l. x ∷ l) e)
 
   -- where the job stands, if it is there
-  pub place_cases : (ps : List Placement) → MatchOption (position has ps) (Absent n ps) (λ i. Stands n ps i)
+  place_cases : (ps : List Placement) → MatchOption (position has ps) (Absent n ps) (λ i. Stands n ps i)
   place_cases ps =
       let k = position_or_len has ps in
       let at : find n ps ≡ slice_get ps k = sym (find_same ps) ∙ find_at has ps in
@@ -76,3 +82,8 @@ module _ (n : ℕ) where
       -- nothing is taken out past the end
       removed_past : (xs : List Placement) (k : ℕ) → length xs ≤ k → remove xs k ≡ xs
       removed_past xs k over = grind (arith, common_steps)
+
+  -- the same of a place that is known to be the first with the number
+  pub place_is :
+      (ps : List Placement) (i : Option ℕ) → i ≡ position has ps → MatchOption i (Absent n ps) (λ k. Stands n ps k)
+  place_is ps i is = rw is (place_cases ps)

@@ -1,4 +1,4 @@
-ghost use Rattle.std.specs.Prelude.{◌≡◌, ◌*◌, ◌≤◌, length};
+ghost use Rattle.std.specs.Prelude.{◌≡◌, ◌*◌, ◌≤◌, length, sum_by};
 ghost use Rattle.figures.specs.Demand.{ceil};
 ghost use Rattle.roster.specs.Loads.{job_load, load, loads, primary_load, standby_load};
 
@@ -7,6 +7,7 @@ use rack::{Placement, Status};
 use std::array;
 
 // A run in every period, in millionths of the machine, rounded up: no more than all of it.
+#[tactic(auto, using(crate::proofs::Weights::div_ceil_same))]
 fn millionths(run: u32, period: u32) -> u64
     requires { (run ≤ period) × (1 ≤ period) }
     ensures value { result ≡ ceil (1000000 * run) period }
@@ -47,19 +48,27 @@ fn of_job(p: &Placement, machine: u8) -> u64
     of_primary(p, machine) + of_standby(p, machine)
 }
 
-// The load of a machine.
-fn load_of(placements: &[Placement], machine: u8) -> u64
+// What jobs add to it together.
+fn of_jobs(placements: &[Placement], machine: u8) -> u64
     requires { length placements.now ≤ 96 }
-    ensures { result ≡ load machine placements.now }
+    ensures { result ≡ sum_by (job_load machine) placements.now }
 {
     placements.iter().map(|p| of_job(p, machine)).sum()
 }
 
 impl Roster {
+    // The load of a machine.
+    #[tactic(auto, using(crate::proofs::Weights::load_sum))]
+    fn load(&self, machine: u8) -> u64
+        ensures { result ≡ load machine self.now.placements.items }
+    {
+        of_jobs(self.placements(), machine)
+    }
+
     // How much of each machine is asked for while nothing has stopped, in millionths.
     pub fn loads(&self) -> [u64; 16]
         ensures { result ≡ loads self.now.placements.items }
     {
-        array::from_fn(|machine| load_of(self.placements(), machine as u8))
+        array::from_fn(|machine| self.load(machine as u8))
     }
 }

@@ -1,28 +1,44 @@
-ghost use Rattle.std.specs.Prelude.{◌≡◌, ℕ, ◌≤◌, true, length, MatchOption};
+ghost use Rattle.std.specs.Prelude.{◌≡◌, ◌==◌, ℕ, ◌≤◌, nat_lt, true, length, position, MatchOption};
 ghost use Rattle.std.specs.List.{insert};
+ghost use Rattle.rack.specs.Plan.{number};
 ghost use Rattle.roster.specs.Changes.{Absent, Orderly, Stands, addable, with_job, without};
 ghost use Rattle.roster.specs.Rising.{placed};
 
 use rack::Placement;
 
-// Where the job with this number stands. By `position` and no binary search: its promise holds of any list.
+// The first with this number. By `position` and no binary search: its promise holds of any list.
+fn first_of(placements: &[Placement], wanted: u32) -> Option<usize>
+    ensures { result ≡ position (λ q. number q == wanted) placements.now }
+{
+    placements.iter().position(|p| p.terms.number() == wanted)
+}
+
+// Where the job with this number stands.
+#[tactic(auto, using(crate::proofs::Searches::place_is))]
 pub(crate) fn place_of(placements: &[Placement], number: u32) -> Option<usize>
     ensures cases { MatchOption result (Absent number placements.now) (λ i. Stands number placements.now i) }
     ensures keeps { (m : ℕ) → Orderly m placements.now → Orderly m (without number placements.now) }
 {
-    placements.iter().position(|p| p.terms.number() == number)
+    first_of(placements, number)
 }
 
-// Where a job is to stand: before the first of a larger number, on any list, so no `partition_point`.
+// Where the first of a larger number stands. By `position` and no `partition_point`: its promise holds of any list.
+fn first_above(placements: &[Placement], p: &Placement) -> Option<usize>
+    ensures { result ≡ position (λ q. nat_lt (number p.now) (number q)) placements.now }
+{
+    placements
+        .iter()
+        .position(|other| p.terms.number() < other.terms.number())
+}
+
+// Where a job is to stand: before the first of a larger number.
+#[tactic(auto, using(crate::proofs::Searches::placed_before_larger))]
 pub fn place_for(placements: &[Placement], p: &Placement) -> usize
     ensures within { result ≤ length placements.now }
     ensures there { insert placements.now result p.now ≡ with_job p.now placements.now }
     ensures keeps { (m : ℕ) → addable m placements.now p.now ≡ true → Orderly m placements.now → Orderly m (with_job p.now placements.now) }
 {
-    placements
-        .iter()
-        .position(|other| p.terms.number() < other.terms.number())
-        .unwrap_or(placements.len())
+    first_above(placements, p).unwrap_or(placements.len())
 }
 
 // Whether the two machines differ and are of the rack.

@@ -1,6 +1,7 @@
 ghost use Rattle.std.specs.Prelude.{◌≡◌};
 ghost use Rattle.roster.specs.Changes.{find};
 
+use crate::places::place_of;
 use crate::roster::Roster;
 use rack::Placement;
 
@@ -22,9 +23,7 @@ impl Roster {
     pub fn find(&self, number: u32) -> Option<Placement>
         ensures { result ≡ find number self.now.placements.items }
     {
-        self.placements
-            .iter()
-            .find(|p| p.terms.number() == number)
-            .copied()
+        let i = place_of(self.placements(), number)?;
+        Some(self.placements[i])
     }
 }
