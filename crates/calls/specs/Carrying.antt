@@ -1,7 +1,6 @@
 -- What holds while a list of calls is carried out.
 use Rattle.std.specs.Prelude.{◌≡◌, ℕ, Bool, List, [], ◌∷◌}
 use Rattle.terms.specs.declared.terms.Terms.{Terms}
-use Rattle.rack.specs.Test.{Passes}
 use Rattle.plantest.specs.Verdicts.{Safe}
 use Rattle.planner.specs.Answers.{place_answer}
 use Rattle.planner.specs.Refused.{PlaceMeans}
@@ -9,7 +8,7 @@ use Rattle.planner.specs.Filed.{AdoptMeans, adopt_answer, adopt_plan, refused_wi
 use Rattle.calls.specs.declared.call.Call.{Call}
 use Rattle.calls.specs.declared.call.Call.TheVariants.{Place, Pin, Withdraw, Adopt, Figures, Write}
 use Rattle.calls.specs.Said.{Answer}
-use Rattle.calls.specs.Calls.{State, plan_in, answer_of, after, after_all, answers_of}
+use Rattle.calls.specs.Calls.{State, plan_in, after, after_all, answers_of}
 
 -- what place and adopt mean
 abbrev pub Right : (Terms → Terms → Bool) → (ℕ → List ℕ → List ℕ) → ℕ → State → Call → Type 0
@@ -22,13 +21,6 @@ Right before turns code s (Adopt bytes) =
     (adopt_plan before code bytes.now (plan_in s))
 Right before turns code s (Figures n) = Unit {0}
 Right before turns code s (Write start size) = Unit {0}
-
--- a call carried out: its answer, the state after it, that a plan that passes still does, and what place and adopt mean
-pub record Carried (before : Terms → Terms → Bool) (turns : ℕ → List ℕ → List ℕ) (code : ℕ) (s : State) (call : Call) (answer : Answer) (next : State) : Type 0 where
-  pub answered : answer ≡ answer_of before turns code s call
-  pub ended : next ≡ after before turns code s call
-  pub keeps : Passes before s.machines s.jobs → Passes before next.machines next.jobs
-  pub right : Right before turns code s call
 
 -- before each call and after the last the plan is safe, and each place and adopt means what it should at its turn
 abbrev pub Holds : (Terms → Terms → Bool) → (ℕ → List ℕ → List ℕ) → ℕ → State → List Call → Type 0

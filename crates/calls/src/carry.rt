@@ -1,8 +1,7 @@
 ghost use Rattle.std.specs.Prelude.{◌≡◌, length, take, drop, MatchResult};
-ghost use Rattle.rack.specs.Test.{Passes};
 ghost use Rattle.planner.specs.Filed.{write_answer, write_bytes};
-ghost use Rattle.calls.specs.Calls.{begin_answer, space_at, state_of, with_space};
-ghost use Rattle.calls.specs.Carrying.{AllCarried, Carried};
+ghost use Rattle.calls.specs.Calls.{after, answer_of, begin_answer, space_at, state_of, with_space};
+ghost use Rattle.calls.specs.Carrying.{AllCarried, Right};
 ghost use Rattle.calls.specs.Promise.{Promise};
 
 use crate::answer::{Answer, Outcome};
@@ -34,7 +33,9 @@ fn carry_one<R: Precedence + Drop, O: SearchOrder + Drop>(
     call: &Call,
     out: &mut [u8],
 ) -> Answer
-    ensures carried { Carried (R.Precedence.before plan.old.rule) (O.SearchOrder.turns plan.old.order) R.Precedence.code (state_of plan.old.roster out.old) call.now result (state_of plan.new.roster out.new) }
+    ensures answered { result ≡ answer_of (R.Precedence.before plan.old.rule) (O.SearchOrder.turns plan.old.order) R.Precedence.code (state_of plan.old.roster out.old) call.now }
+    ensures ended { state_of plan.new.roster out.new ≡ after (R.Precedence.before plan.old.rule) (O.SearchOrder.turns plan.old.order) R.Precedence.code (state_of plan.old.roster out.old) call.now }
+    ensures right { Right (R.Precedence.before plan.old.rule) (O.SearchOrder.turns plan.old.order) R.Precedence.code (state_of plan.old.roster out.old) call.now }
     ensures same { (plan.new.rule ≡ plan.old.rule) × (plan.new.order ≡ plan.old.order) }
 {
     match call {
@@ -66,7 +67,6 @@ fn carry_all<R: Precedence + Drop, O: SearchOrder + Drop>(
     answers: &mut [Answer],
 )
     requires room { length answers.old ≡ length calls.now }
-    requires passes { Passes (R.Precedence.before plan.old.rule) plan.old.roster.machines plan.old.roster.placements.items }
     ensures carried { AllCarried (R.Precedence.before plan.old.rule) (O.SearchOrder.turns plan.old.order) R.Precedence.code (state_of plan.old.roster out.old) calls.now answers.new (state_of plan.new.roster out.new) }
     ensures same { (plan.new.rule ≡ plan.old.rule) × (plan.new.order ≡ plan.old.order) }
 {

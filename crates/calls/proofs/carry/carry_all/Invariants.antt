@@ -1,5 +1,4 @@
-use Rattle.std.proofs.Common.{◌≡◌, take, vec_items}
-use Rattle.rack.specs.Test.{Passes}
+use Rattle.std.proofs.Common.{◌≡◌, take}
 use Rattle.calls.specs.Calls.{state_of}
 use Rattle.calls.specs.Carrying.{AllCarried}
 use Rattle.calls.proofs.carry.carry_all.Given as goal
@@ -12,6 +11,5 @@ invariant-loop-i g l =
     record {
       rule : l.plan.rule ≡ l.initial.plan.rule;
       order : l.plan.order ≡ l.initial.plan.order;
-      passes : Passes b l.plan.roster.machines (vec_items l.plan.roster.placements);
       carried : AllCarried b t g.R.Precedence.code s (take l.i l.calls) (take l.i l.answers) (state_of l.plan.roster l.out);
     }
