@@ -127,7 +127,7 @@ impl<R: Precedence> Search<'_, R> {
         ensures test { is_some result ≡ quiet_passes (R.Precedence.before self.now.rule.now) roster.now.placements.items }
         ensures figures { IfSome result (λ l. l.now ≡ map (passive_late (R.Precedence.before self.now.rule.now) roster.now.placements.items) roster.now.placements.items) }
     {
-        lates.items.clear();
+        lates.clear();
         // No `extend`: its closure would change `space`, and it may ask for memory.
         for (p, known) in roster.placements().iter().zip(self.known) {
             let late = if is_changed(x, p.primary) {
@@ -135,9 +135,9 @@ impl<R: Precedence> Search<'_, R> {
             } else {
                 *known
             };
-            lates.items.push_reserved(late);
+            lates.push(late);
         }
-        Some(lates.items.as_slice())
+        Some(lates.as_slice())
     }
 
     // Whether all that the job can change in the plan that has it passes.

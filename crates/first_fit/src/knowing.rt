@@ -12,14 +12,12 @@ use terms::Terms;
 
 // How late the standby of each job is while it is passive.
 fn all_lates<R: Precedence>(rule: &R, roster: &Roster, space: &mut Workspace, known: &mut Figures)
-    ensures figures { known.new.items.items ≡ map (passive_late (R.Precedence.before rule.now) roster.now.placements.items) roster.now.placements.items }
+    ensures figures { known.new.held.items ≡ map (passive_late (R.Precedence.before rule.now) roster.now.placements.items) roster.now.placements.items }
 {
-    known.items.clear();
+    known.clear();
     // No `extend`: its closure would change `space`, and it may ask for memory.
     for p in roster.placements() {
-        known
-            .items
-            .push_reserved(passive_lateness(rule, roster, p, space));
+        known.push(passive_lateness(rule, roster, p, space));
     }
 }
 
@@ -45,6 +43,6 @@ pub(crate) fn know<'a, R: Precedence>(
         status: Status::Passive,
     };
     let i = place_for(roster.placements(), &p);
-    let _ = known.items.insert(i, 0);
-    Some(known.items.as_slice())
+    known.insert(i, 0);
+    Some(known.as_slice())
 }

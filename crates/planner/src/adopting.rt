@@ -18,7 +18,7 @@ impl<R: Precedence + Drop, O: SearchOrder + Drop> Plan<R, O> {
         ensures refused { result ≡ (if is_ok result then Ok tt else Err NotAPlan) }
         ensures same { (self.new.rule ≡ self.old.rule) × (self.new.order ≡ self.old.order) × (self.new.roster ≡ self.old.roster) }
     {
-        let out = &mut self.incoming.placements;
+        let out = &mut self.incoming.held;
         let Ok(Some(machines)) = read_plan(R::its_code(), bytes, out) else {
             return Err(Refusal::NotAPlan);
         };

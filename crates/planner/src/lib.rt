@@ -5,7 +5,6 @@
 mod admit;
 mod adopting;
 mod figuring;
-mod incoming;
 mod open;
 mod pin;
 mod place;

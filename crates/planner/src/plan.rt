@@ -1,11 +1,12 @@
 ghost use Rattle.std.specs.Prelude.{◌≡◌, true, [], IfOk};
 ghost use Rattle.rack.specs.Test.{passes};
 
-use crate::incoming::Incoming;
+use buffer::Buffer;
 use first_fit::Latenesses;
 use orders::SearchOrder;
 use plantest::Workspace;
 use precedence::Precedence;
+use rack::Placement;
 use roster::Roster;
 use std::alloc::{AllocError, Global};
 
@@ -17,9 +18,9 @@ pub struct Plan<R: Precedence, O: SearchOrder> {
     pub(crate) roster: Roster,
     pub(crate) space: Workspace,
     pub(crate) lates: Latenesses,
-    // a file that is being adopted
+    // a file that is being adopted: the plan that it holds, and its placements as they are read
     pub(crate) spare: Roster,
-    pub(crate) incoming: Incoming,
+    pub(crate) incoming: Buffer<Placement, 96>,
     // every plan passes: an empty one does, and each call keeps it so
     // (the calls' clauses `same` and `keeps` stay: crate calls cites them, and a name for them would take five arguments)
     ghost passing: { passes (R.Precedence.before rule) roster.machines roster.placements.items ≡ true },
@@ -34,8 +35,7 @@ impl<R: Precedence + Drop, O: SearchOrder + Drop> Plan<R, O> {
         let space = Workspace::new(heap)?;
         let lates = Latenesses::new(heap)?;
         let spare = Roster::new(heap)?;
-        let placements = Vec::with_capacity(heap, 96)?;
-        let incoming = Incoming { placements };
+        let incoming = Buffer::new(heap)?;
         Ok(Plan {
             rule,
             order,

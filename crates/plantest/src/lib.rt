@@ -3,7 +3,6 @@
 #![tactic(auto)]
 
 mod answering;
-mod buffer;
 mod check;
 mod gather;
 mod known;

@@ -1,6 +1,6 @@
 ghost use Rattle.std.specs.Prelude.{◌≤◌, IfOk, vec_capacity};
 
-use crate::buffer::Buffer;
+use buffer::Buffer;
 use figures::JobCopy;
 use std::alloc::{AllocError, Global};
 

@@ -8,6 +8,6 @@ abbrev pub invariant-loop-p : goal.invariant-loop-p
 invariant-loop-p g l =
     record {
       quiet : all_of (has_quiet (g.R.Precedence.before l.self.rule.now) (vec_items l.roster.placements)) (take (length l.yielded) (vec_items l.roster.placements)) ≡ true;
-      figures : vec_items l.lates.items ≡ map (passive_late (g.R.Precedence.before l.self.rule.now) (vec_items l.roster.placements)) (take (length l.yielded) (vec_items l.roster.placements));
-      len : vec_len l.lates.items ≡ length l.yielded;
+      figures : vec_items l.lates.held ≡ map (passive_late (g.R.Precedence.before l.self.rule.now) (vec_items l.roster.placements)) (take (length l.yielded) (vec_items l.roster.placements));
+      len : vec_len l.lates.held ≡ length l.yielded;
     }
