@@ -23,8 +23,5 @@ pub type Answer = Result<Outcome, Refusal>;
 pub fn refusal_number(answer: &Answer) -> u8
     ensures { result ≡ refusal_number answer.now }
 {
-    match answer {
-        Ok(_) => 0,
-        Err(refusal) => refusal.number(),
-    }
+    answer.err().map_or(0, |refusal| refusal.number())
 }

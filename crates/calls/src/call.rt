@@ -1,7 +1,7 @@
 use terms::Draft;
 
 // A call to a plan, with its arguments.
-#[derive(Clone, Copy)]
+#[derive(Clone, Copy, PartialEq, Eq, Debug)]
 pub enum Call<'a> {
     Place(Draft),
     Pin {

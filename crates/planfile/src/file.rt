@@ -48,7 +48,8 @@ fn admit(m: u8, last: u32, jobs: usize, job: JobRecord) -> Option<Placement>
     }
 }
 
-// The records after the head, if they are those of a plan file; then their placements are added to `out`.
+// The records after the head, if they are those of a plan file; then their placements are added to `out`, which the
+// caller lends, since reading must not ask for memory.
 fn read_body(reader: &mut Reader, m: u8, out: &mut Vec<Placement>) -> Option<()>
     requires { (out.old.items ≡ []) × (vec_len out.old ≡ 0) × (96 ≤ vec_capacity out.old) }
     ensures holds { body_of m 0 0 0 (ahead reader.old) ≡ option_map (λ _. out.new.items) result }

@@ -8,7 +8,7 @@ use crate::record::{JobRecord, Record};
 use terms::Draft;
 
 // A number of two bytes, the high one first.
-// A const parameter would make the array alone, since each width has a conversion of its own.
+// Not one function for both widths: `from_be_bytes` belongs to one number type, so each needs a call of its own.
 fn two_bytes(bytes: &[u8], at: usize) -> u32
     requires { at + 2 ≤ length bytes.now }
     ensures { result ≡ number_2 bytes.now at }

@@ -5,7 +5,7 @@ ghost use Rattle.precedence.specs.Laws.{Laws};
 use terms::Terms;
 
 // A precedence rule. What it means is the relation `before`; generic code may use of it
-// only the laws and that asking tells it exactly.
+// only the laws, that asking tells it exactly, and its code.
 pub trait Precedence {
     // The rule's fixed code, which stands in the head of a plan file.
     const CODE: u8;

@@ -6,7 +6,7 @@ ghost use Rattle.roster.specs.Rising.{placed};
 
 use rack::Placement;
 
-// The first with this number. By `position` and no binary search: its promise holds of any list.
+// The first with this number, on any list: of at most 96 a search by halves would gain nothing.
 fn first_of(placements: &[Placement], wanted: u32) -> Option<usize>
     ensures { result ≡ position (λ q. number q == wanted) placements.now }
 {
@@ -22,7 +22,7 @@ pub(crate) fn place_of(placements: &[Placement], number: u32) -> Option<usize>
     first_of(placements, number)
 }
 
-// Where the first of a larger number stands. By `position` and no `partition_point`: its promise holds of any list.
+// Where the first of a larger number stands. By `position` and no `partition_point`: `place_for` promises of any list.
 fn first_above(placements: &[Placement], p: &Placement) -> Option<usize>
     ensures { result ≡ position (λ q. nat_lt (number p.now) (number q)) placements.now }
 {

@@ -8,7 +8,7 @@ use std::alloc::{AllocError, Global};
 #[derive(Drop)]
 pub struct Roster {
     pub(crate) machines: u8,
-    // Sorted, and no `BTreeMap`: a map allocates at each insert, and a call must not fail for want of memory.
+    // Sorted, and no `BTreeMap`: a map may allocate at an insert, and a call must not fail for want of memory.
     pub(crate) placements: Vec<Placement>,
     ghost sized: { (2 ≤ machines) × (machines ≤ 16) },
     ghost few: { vec_len placements ≤ 96 },
