@@ -12,7 +12,8 @@ pub struct Buffer<T, const N: usize> {
     ghost roomy: { N ≤ vec_capacity held },
 }
 
-// What adds an item requires room for it: that is why it cannot fail. Each call's proof shows it.
+// A full buffer takes no further item and stays as it is, so that no call can fail. Whoever adds an item shows that
+// there is room, and has it there.
 impl<T: Copy, const N: usize> Buffer<T, N> {
     pub fn new(heap: Global) -> Result<Buffer<T, N>, AllocError>
         ensures empty { IfOk result (λ b. b.held.items ≡ []) }
@@ -29,16 +30,18 @@ impl<T: Copy, const N: usize> Buffer<T, N> {
     }
 
     pub fn push(&mut self, x: T)
-        requires { vec_len self.old.held < N }
-        ensures items { self.new.held.items ≡ self.old.held.items ++ x ∷ [] }
+        ensures items { vec_len self.old.held < N → self.new.held.items ≡ self.old.held.items ++ x ∷ [] }
+        ensures full { N ≤ vec_len self.old.held → self.new.held.items ≡ self.old.held.items }
     {
-        self.held.push_reserved(x);
+        if self.held.len() < N {
+            self.held.push_reserved(x);
+        }
     }
 
     // Adds an item, if there is one.
     pub fn add(&mut self, item: Option<T>)
-        requires { vec_len self.old.held < N }
-        ensures items { self.new.held.items ≡ self.old.held.items ++ option_to_list item }
+        ensures items { vec_len self.old.held < N → self.new.held.items ≡ self.old.held.items ++ option_to_list item }
+        ensures full { N ≤ vec_len self.old.held → self.new.held.items ≡ self.old.held.items }
         ensures len { vec_len self.new.held ≤ vec_len self.old.held + 1 }
     {
         if let Some(x) = item {
@@ -46,12 +49,15 @@ impl<T: Copy, const N: usize> Buffer<T, N> {
         }
     }
 
-    // Puts an item before the one at this place, or at the end.
+    // Puts an item before the one at this place, or at the end. A place past the end is none: nothing changes.
     pub fn insert(&mut self, place: usize, x: T)
-        requires { (place ≤ vec_len self.old.held) × (vec_len self.old.held < N) }
-        ensures items { self.new.held.items ≡ insert self.old.held.items place x }
+        ensures items { place ≤ vec_len self.old.held → vec_len self.old.held < N → self.new.held.items ≡ insert self.old.held.items place x }
+        ensures past { vec_len self.old.held < place → self.new.held.items ≡ self.old.held.items }
+        ensures full { N ≤ vec_len self.old.held → self.new.held.items ≡ self.old.held.items }
     {
-        let _ = self.held.insert(place, x);
+        if place <= self.held.len() && self.held.len() < N {
+            let _ = self.held.insert(place, x);
+        }
     }
 
     pub fn as_slice(&self) -> &[T]

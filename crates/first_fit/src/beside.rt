@@ -15,13 +15,7 @@ use roster::Roster;
 fn is_changed(x: &Placement, g: u8) -> bool
     ensures { result ≡ changed x.now g }
 {
-    if x.primary == g {
-        return true;
-    }
-    match x.status {
-        Status::Passive => false,
-        Status::Active => x.standby == g,
-    }
+    x.primary == g || (x.standby == g && x.status == Status::Active)
 }
 
 // Whether g is tested for the loss of f on this placement's account: its standby is on g, its primary on f, and
@@ -29,16 +23,7 @@ fn is_changed(x: &Placement, g: u8) -> bool
 fn asks_for(p: &Placement, here: bool, there: bool, g: u8, f: u8) -> bool
     ensures { result ≡ asks here there g f p.now }
 {
-    if p.standby != g || p.primary != f {
-        return false;
-    }
-    if here {
-        return true;
-    }
-    match p.status {
-        Status::Passive => there,
-        Status::Active => false,
-    }
+    p.standby == g && p.primary == f && (here || (there && p.status == Status::Passive))
 }
 
 fn any_asks(placements: &[Placement], here: bool, there: bool, g: u8, f: u8) -> bool
@@ -88,7 +73,8 @@ impl<R: Precedence> Beside<'_, R> {
     fn machine_beside(&self, space: &mut Workspace, g: u8) -> bool
         ensures { result ≡ machine_beside (R.Precedence.before self.now.rule.now) self.now.roster.now.machines self.now.x.now self.now.roster.now.placements.items g }
     {
-        // No `all`, here and below: its closure would change `space`, and no chain proof goes through that.
+        // No `all`, here and below: as in the plan test, the closure would change `space`, and the goal of `all` stays
+        // open.
         for f in 0..self.roster.machines() {
             if !self.pair_beside(space, g, f) {
                 return false;

@@ -14,11 +14,13 @@ use rack::{Placement, Status};
 use roster::Roster;
 use terms::Terms;
 
-// Roster and memory are no fields: each method would have to ensure besides that its references keep their ghost
-// names and that all else stays. `Ready` stays a clause, since the roster that it speaks of changes between calls.
+// Roster and memory are parameters and no fields: behind `&mut self` each method would have to say besides that its
+// references are still the same ones and that all else stays.
+// `Ready` stays a clause, since the roster that it speaks of changes between calls.
 impl<R: Precedence> Search<'_, R> {
     // Puts the job into a plan that passes, and takes it out again unless the plan still does.
-    // A closure as the test would join this with `try_choice`, but its clauses would be longer than both bodies.
+    // It differs from `try_choice` in the test alone. To pass the test as a closure to one function for both, that
+    // function would need the closure's contract as clauses of its own, which are longer than these bodies.
     #[tactic(auto, using(crate::proofs::Touches::tried_touched, crate::proofs::Tries::in_and_out))]
     fn try_beside(
         &self,
@@ -56,7 +58,8 @@ impl<R: Precedence> Search<'_, R> {
         ensures jobs { roster.new.placements.items ≡ jobs_at self.now.terms primary status roster.old.placements.items result }
         ensures machines { roster.new.machines ≡ roster.old.machines }
     {
-        // No `find`, here and below: its closure would change the roster, and no chain proof goes through that.
+        // No `find`, here and below: as in the plan test, the closure would change what it is given (here the roster
+        // and `space`), and the goal of `find` stays open.
         for standby in self.turns {
             let p = Placement {
                 terms: self.terms,

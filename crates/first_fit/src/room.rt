@@ -16,7 +16,7 @@ impl<R: Precedence> Search<'_, R> {
     fn all_quiet_on(&self, roster: &Roster, space: &mut Workspace, g: u8) -> bool
         ensures { result ≡ all_of (quiet_on (R.Precedence.before self.now.rule.now) roster.now.placements.items g) roster.now.placements.items }
     {
-        // No `all`: its closure would change `space`, and no chain proof goes through that.
+        // No `all`: as in the plan test, the closure would change `space`, and the goal of `all` stays open.
         for p in roster.placements() {
             if p.primary == g && quiet_figure(self.rule, roster, p, space).is_none() {
                 return false;

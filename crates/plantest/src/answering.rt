@@ -27,6 +27,7 @@ impl<'a, R: Precedence> Known<'a, R> {
     fn largest_figure(&self, p: &Placement, copies: &mut Copies) -> u32
         ensures { result ≡ largest_lost (R.Precedence.before self.now.tested.now.rule.now) self.now.tested.now.placements.now p.now self.now.tested.now.machines }
     {
+        // No `map` and `max`: the closure would change `copies`, as in `machine_fits`.
         let mut largest = 0u32;
         for f in 0..self.tested.machines {
             largest = largest.max(self.lost_figure(p, f, copies));

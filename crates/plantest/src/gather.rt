@@ -74,6 +74,7 @@ impl<'a, R: Precedence> Tested<'a, R> {
         ensures { copies.new.held.items ≡ quiet g self.now.placements.now }
     {
         copies.clear();
+        // No `extend`, here and below: it may ask for memory.
         for p in self.placements {
             copies.add(quiet_copy(p, g));
         }
