@@ -122,14 +122,6 @@ module _ (before : Terms → Terms → Bool) (m : ℕ) (ps : List Placement) (t 
             absurd (none c.0 c.1 c.2 (record { primary = turn_machine c.0 s.0; standby = turn_machine c.1 s.1; apart = λ own. s.2 (sym own) })
             (passes_means before m (with_job (placement_of t c.0 c.1 c.2) ps) s.3))
 
-    -- the plan with the first choice passes
-    pub first_passes :
-        (o : Option Choice) → o ≡ first_choice (passes_beside before m ps t) turns turns → Passes before m ps → Passes before m (choice_jobs t ps o)
-    first_passes None e pass = pass
-    first_passes (Some c) e pass =
-        let s = choice_some (passes_beside before m ps t) turns turns c (sym e) in
-        passes_means before m (with_job (placement_of t c.0 c.1 c.2) ps) s.3
-
   -- a job that has no choice has none beside further placements either
   pub none_beside_more : rising ps ≡ true → NoChoice before m ps t → NoneBesideMore before m ps t
   none_beside_more up none =
@@ -147,12 +139,3 @@ pub keeps_without :
 keeps_without before m n ps qs up is pass =
     subst (λ (xs : List Placement). Passes before m xs) (sym is)
     (fewer_pass before m ps pass (without n ps) (rising_once (without n ps) (rising_without n ps up)) (λ q at. without_part n q ps at))
-
--- a plan in which one choice was tried
-pub keeps_tried :
-    (before : Terms → Terms → Bool) (m : ℕ) (ps qs : List Placement) (p : Placement) (done : Bool) → done ≡ tried before m ps p →
-    qs ≡ cond done (with_job p ps) ps → Passes before m ps → Passes before m qs
-keeps_tried before m ps qs p false is jobs pass = subst (λ (xs : List Placement). Passes before m xs) (sym jobs) pass
-keeps_tried before m ps qs p true is jobs pass =
-    subst (λ (xs : List Placement). Passes before m xs) (sym jobs)
-    (passes_means before m (with_job p ps) (and_parts (addable m ps p) (passes before m (with_job p ps)) (sym is)).1)

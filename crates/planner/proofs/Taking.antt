@@ -1,12 +1,12 @@
 -- Taking over the plan of a file, and what was written taken back.
-use Rattle.std.proofs.Common.{◌≡◌, ℕ, suc, ◌<◌, ◌≤◌, Bool, true, false, cond, leb, List, [], ◌∷◌, ◌++◌, length, get_or, take, drop, Some, None, Ok, Err, Option, Result, sym, refl, ap, ◌∙◌, subst, ⊎_elim, w8, Fits}
+use Rattle.std.proofs.Common.{◌≡◌, ℕ, suc, ◌<◌, ◌≤◌, Bool, true, false, cond, leb, List, [], ◌∷◌, ◌++◌, length, get_or, take, drop, Some, None, Ok, Err, Option, Result, sym, refl, ap, ◌∙◌, ⊎_elim, w8, Fits}
 use lib.Seq.{take-append_seam}
-use Rattle.std.proofs.lemmas.Bool.{cases_Bool, cond_both}
+use Rattle.std.proofs.lemmas.Bool.{cases_Bool}
 use Rattle.terms.specs.declared.terms.Terms.{Terms}
 use Rattle.terms.specs.declared.refusal.Refusal.{Refusal}
 use Rattle.terms.specs.declared.refusal.Refusal.TheVariants.{NotAPlan, PlanFails, Short}
 use Rattle.rack.specs.declared.placement.Placement.{Placement}
-use Rattle.rack.specs.Test.{Passes, passes}
+use Rattle.rack.specs.Test.{passes}
 use Rattle.rack.proofs.Tested.{passes_means, passes_true}
 use Rattle.roster.specs.Rising.{rising, all_placed}
 use Rattle.planfile.specs.Format.{Bytes}
@@ -15,7 +15,7 @@ use Rattle.planfile.specs.Judging.{plan_of}
 use Rattle.planfile.proofs.Agrees.{agree}
 use Rattle.filewriter.specs.Written.{file_of, file_length}
 use Rattle.filewriter.proofs.Returns.{round_trip}
-use Rattle.planner.specs.Filed.{AdoptMeans, TakenBack, adopt_plan, refused_with, adopted, taken, write_answer, write_bytes}
+use Rattle.planner.specs.Filed.{AdoptMeans, TakenBack, refused_with, adopted, taken, write_answer, write_bytes}
 
 module _ (before : Terms → Terms → Bool) (code : ℕ) (xs : List ℕ) (m : ℕ) (ps : List Placement) (held : plan_of code xs ≡ Some (m, ps)) (pass : passes before m ps ≡ true) where
   pub adopt_done : adopted before (plan_of code xs) ≡ Ok tt
@@ -23,21 +23,6 @@ module _ (before : Terms → Terms → Bool) (code : ℕ) (xs : List ℕ) (m : �
 
   pub adopt_takes : (old : ℕ × List Placement) → taken before (plan_of code xs) old ≡ (m, ps)
   adopt_takes old = ap (λ f. taken before f old) held ∙ ap (λ b. cond b (m, ps) old) pass
-
--- a plan that passes is left, or replaced by one that passes
-keeps_file :
-    (before : Terms → Terms → Bool) (file : Option (ℕ × List Placement)) (old new : ℕ × List Placement) → new ≡ taken before file old →
-    Passes before old.0 old.1 → Passes before new.0 new.1
-keeps_file before None old new is pass = subst (λ (p : ℕ × List Placement). Passes before p.0 p.1) (sym is) pass
-keeps_file before (Some file) old new is pass =
-    subst (λ (p : ℕ × List Placement). Passes before p.0 p.1) (sym is)
-    (cond_both (passes before file.0 file.1) file old (λ (p : ℕ × List Placement). Passes before p.0 p.1)
-    (λ yes'. passes_means before file.0 file.1 yes') (λ _. pass))
-
-pub adopt_keeps :
-    (before : Terms → Terms → Bool) (code : ℕ) (xs : List ℕ) (old new : ℕ × List Placement) → new ≡ adopt_plan before code xs old →
-    Passes before old.0 old.1 → Passes before new.0 new.1
-adopt_keeps before code xs = keeps_file before (plan_of code xs)
 
 -- what is read of lent bytes is a byte each
 pub all_bytes : (xs : List ℕ) → ((i : ℕ) → Fits w8 (get_or xs i 0)) → Bytes xs

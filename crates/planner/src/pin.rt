@@ -1,5 +1,4 @@
 ghost use Rattle.std.specs.Prelude.{◌≡◌, if◌then◌else◌};
-ghost use Rattle.rack.specs.Test.{Passes};
 ghost use Rattle.roster.specs.Changes.{with_job};
 ghost use Rattle.planner.specs.Answers.{pin_answer, pin_jobs};
 ghost use Rattle.first_fit.specs.Choices.{placement_of};
@@ -43,7 +42,6 @@ impl<R: Precedence + Drop, O: SearchOrder + Drop> Plan<R, O> {
         ensures answer { result ≡ pin_answer (R.Precedence.before self.old.rule) self.old.roster.machines self.old.roster.placements.items draft primary standby status }
         ensures jobs { self.new.roster.placements.items ≡ pin_jobs (R.Precedence.before self.old.rule) self.old.roster.machines self.old.roster.placements.items draft primary standby status }
         ensures same { (self.new.rule ≡ self.old.rule) × (self.new.order ≡ self.old.order) × (self.new.roster.machines ≡ self.old.roster.machines) }
-        ensures keeps { Passes (R.Precedence.before self.old.rule) self.old.roster.machines self.old.roster.placements.items → Passes (R.Precedence.before self.old.rule) self.old.roster.machines self.new.roster.placements.items }
     {
         let terms = admit(&self.roster, draft)?;
         let Ok(status) = Status::try_from(status) else {

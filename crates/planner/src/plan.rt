@@ -22,7 +22,7 @@ pub struct Plan<R: Precedence, O: SearchOrder> {
     pub(crate) spare: Roster,
     pub(crate) incoming: Buffer<Placement, 96>,
     // every plan passes: an empty one does, and each call keeps it so
-    // (the calls' clauses `same` and `keeps` stay: crate calls cites them, and a name for them would take five arguments)
+    // (the calls' clauses `same` stay: nothing in a type says that a `&mut self` call keeps rule and order)
     ghost passing: { passes (R.Precedence.before rule) roster.machines roster.placements.items ≡ true },
 }
 

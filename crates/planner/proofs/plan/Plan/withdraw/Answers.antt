@@ -13,13 +13,3 @@ invariant_of-self g c =
     let out = c.remove.ensures in
     let pass = keeps_without b r.machines c.args.number ps _ r.rising_numbers out.items (passes_means b r.machines ps self.passing) in
     record { passing = ap (λ n. passes b n (vec_items c.remove.new.self.placements)) out.machines ∙ passes_true b r.machines _ pass }
-
-pub returns-in_err-ok_or-clause-keeps : goal.returns-in_err-ok_or-clause-keeps
-returns-in_err-ok_or-clause-keeps g c =
-    let r = c.args.self.now.roster in
-    keeps_without (g.R.Precedence.before c.args.self.now.rule) r.machines c.args.number (vec_items r.placements) _ r.rising_numbers c.remove.ensures.items
-
-pub returns-clause-keeps : goal.returns-clause-keeps
-returns-clause-keeps g c =
-    let r = c.args.self.now.roster in
-    keeps_without (g.R.Precedence.before c.args.self.now.rule) r.machines c.args.number (vec_items r.placements) _ r.rising_numbers c.remove.ensures.items
