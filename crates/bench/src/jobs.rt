@@ -41,15 +41,12 @@ fn varied_job(i: u32, draws: [u32; 4]) -> Draft {
 }
 
 pub fn varied() -> [Draft; 96] {
-    let mut jobs = [alike_job(0); 96];
     let mut last = 1;
-    for (i, job) in jobs.iter_mut().enumerate() {
+    array::from_fn(|i| {
         let a = drawn(last);
         let b = drawn(a);
         let c = drawn(b);
-        let d = drawn(c);
-        *job = varied_job(i as u32, [a, b, c, d]);
-        last = d;
-    }
-    jobs
+        last = drawn(c);
+        varied_job(i as u32, [a, b, c, last])
+    })
 }

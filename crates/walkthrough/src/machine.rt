@@ -5,7 +5,7 @@ use std::io;
 use terms::{Draft, Terms};
 
 // The job's primary, if its terms are lawful.
-fn primary(draft: &Draft) -> Option<JobCopy> {
+pub fn primary(draft: &Draft) -> Option<JobCopy> {
     let terms = Terms::new(*draft).ok()?;
     Some(JobCopy {
         terms,

@@ -11,13 +11,10 @@ fn judge(rt: &HostRuntime, draft: Draft) -> io::Result<()> {
         standby,
         lateness,
     } = draft;
-    print!(rt;
-        "  job {number}: period {period}, deadline {deadline}, run {run}, standby run {standby}, lateness {lateness}: "
-    )?;
-    match Terms::new(draft) {
-        Ok(_) => println!(rt; "lawful"),
-        Err(refusal) => println!(rt; "{refusal}"),
-    }
+    let job = format_args!(
+        "job {number}: period {period}, deadline {deadline}, run {run}, standby run {standby}, lateness {lateness}"
+    );
+    telling::tell(rt, job, Terms::new(draft).map(|_| "lawful"))
 }
 
 pub fn tell(rt: &HostRuntime) -> io::Result<()> {

@@ -2,6 +2,7 @@
 #![tactic(auto)]
 
 mod office;
+mod told;
 mod travel;
 
 use std::io;

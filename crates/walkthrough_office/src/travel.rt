@@ -1,10 +1,11 @@
 // Step 6: a plan travels as a file. Two lists of calls are carried out, and every answer is told.
+use crate::told::Told;
 use calls::{Answer, Call, Outcome, carry_out};
 use orders::Ascending;
 use planner::Plan;
 use precedence::Deadline;
-use rack::Status;
 use std::io;
+use telling::tell;
 use terms::Draft;
 
 const TEN: Draft = Draft {
@@ -16,39 +17,14 @@ const TEN: Draft = Draft {
     lateness: 0,
 };
 
-const ELEVEN: Draft = Draft {
-    number: 11,
-    period: 10,
-    deadline: 10,
-    run: 4,
-    standby: 4,
-    lateness: 0,
-};
+const ELEVEN: Draft = Draft { number: 11, ..TEN };
 
-fn tell_answer(rt: &HostRuntime, call: &str, answer: Answer) -> io::Result<()> {
-    match answer {
-        Ok(Outcome::Placed(primary, standby, Status::Passive)) => println!(rt;
-            "  {call}: primary on machine {primary}, standby asleep on machine {standby}"
-        ),
-        Ok(Outcome::Placed(primary, standby, Status::Active)) => println!(rt;
-            "  {call}: primary on machine {primary}, standby running along on machine {standby}"
-        ),
-        Ok(Outcome::Done) => println!(rt; "  {call}: done"),
-        Ok(Outcome::Figures(quiet, lost, standby)) => println!(rt;
-            "  {call}: quiet {quiet}, at most {lost} when another machine stops, standby {standby}"
-        ),
-        Ok(Outcome::Written(length)) => println!(rt; "  {call}: {length} bytes"),
-        Err(refusal) => {
-            let no = refusal.number();
-            println!(rt; "  {call}: refused with {no}")
-        }
+// What each call of a list answered, by the calls' names.
+fn tell_answers(rt: &HostRuntime, names: &[&str], answers: &[Answer]) -> io::Result<()> {
+    for (name, answer) in names.iter().zip(answers) {
+        tell(rt, *name, answer.map(Told))?;
     }
-}
-
-// The file at the start of the output.
-fn file_in(out: &[u8], length: usize) -> &[u8] {
-    let (file, _) = out.split_at(length.min(out.len()));
-    file
+    Ok(())
 }
 
 fn tell_file(rt: &HostRuntime, file: &[u8]) -> io::Result<()> {
@@ -75,13 +51,16 @@ fn tell_first(
     ];
     let mut answers = [Ok(Outcome::Done); 5];
     if let Err(refusal) = carry_out(plan, 2, &calls, &mut out, &mut answers) {
-        tell_answer(rt, "the list", Err(refusal))?;
+        println!(rt; "  the list: {refusal}")?;
     }
-    tell_answer(rt, "adopt an empty file", answers[0])?;
-    tell_answer(rt, "place job 10", answers[1])?;
-    tell_answer(rt, "place job 11", answers[2])?;
-    tell_answer(rt, "write into 28 bytes", answers[3])?;
-    tell_answer(rt, "write into 64 bytes", answers[4])?;
+    let names = [
+        "adopt an empty file",
+        "place job 10",
+        "place job 11",
+        "write into 28 bytes",
+        "write into 64 bytes",
+    ];
+    tell_answers(rt, &names, &answers)?;
     Ok(out)
 }
 
@@ -101,14 +80,17 @@ fn tell_second<'x>(
     ];
     let mut answers = [Ok(Outcome::Done); 6];
     if let Err(refusal) = carry_out(plan, 3, &calls, &mut [], &mut answers) {
-        tell_answer(rt, "the list", Err(refusal))?;
+        println!(rt; "  the list: {refusal}")?;
     }
-    tell_answer(rt, "place job 11", answers[0])?;
-    tell_answer(rt, "adopt the damaged file", answers[1])?;
-    tell_answer(rt, "figures of job 11", answers[2])?;
-    tell_answer(rt, "adopt the sound file", answers[3])?;
-    tell_answer(rt, "figures of job 11", answers[4])?;
-    tell_answer(rt, "figures of job 10", answers[5])
+    let names = [
+        "place job 11",
+        "adopt the damaged file",
+        "figures of job 11",
+        "adopt the sound file",
+        "figures of job 11",
+        "figures of job 10",
+    ];
+    tell_answers(rt, &names, &answers)
 }
 
 pub fn tell(rt: &HostRuntime) -> io::Result<()> {
@@ -117,13 +99,13 @@ pub fn tell(rt: &HostRuntime) -> io::Result<()> {
     )?;
     let mut plan = Plan::new(rt.alloc(), Deadline, Ascending)?;
     let out = tell_first(rt, &mut plan, &[])?;
-    tell_file(rt, file_in(&out, 29))?;
+    tell_file(rt, &out[..29])?;
     let mut damaged = out;
     damaged[28] = 8;
     println!(rt;
         "  Then a list of calls to a plan of three machines. On the way, the last byte of a copy became 8 (9 is the end)."
     )?;
-    tell_second(rt, &mut plan, file_in(&out, 29), file_in(&damaged, 29))?;
+    tell_second(rt, &mut plan, &out[..29], &damaged[..29])?;
     println!(rt;
         "  Refusal 8: no plan file under this rule; nothing changed. The sound file then replaced all that was planned."
     )?;
