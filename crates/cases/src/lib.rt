@@ -12,7 +12,8 @@ fn each_row_holds()
     ensures run { PlayedIsTheRun }
 {}
 
-// How many rows the table has, all of which hold.
+// How many rows the table has, all of which hold. Which table it is stands in the contract alone, where no const
+// parameter reaches: the next function is this one for the other table.
 pub fn worked_plans_hold() -> usize
     ensures rows { result ≡ length worked_plans }
     ensures hold { all_hold worked_plans ≡ true }

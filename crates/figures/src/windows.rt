@@ -7,7 +7,8 @@ ghost use Rattle.figures.specs.Window.{Windowed};
 use crate::copies::JobCopy;
 use precedence::Precedence;
 
-// A copy beside a set, under a rule.
+// A copy beside a set, under a rule. That a window has at most a million ticks stays a clause: a type of such numbers
+// would be made and taken apart at each step.
 #[derive(Drop)]
 struct Held<'a, R> {
     rule: &'a R,
