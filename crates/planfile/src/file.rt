@@ -30,7 +30,7 @@ fn place(m: u8, job: JobRecord) -> Option<Placement>
     })
 }
 
-// The same by its definition.
+// The same by its definition, which is a proof step of its own.
 fn placement(m: u8, job: JobRecord) -> Option<Placement>
     ensures { result ≡ placement_of m job.draft job.pair job.status }
 {

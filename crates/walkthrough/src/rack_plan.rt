@@ -6,6 +6,7 @@ use std::io;
 use telling::Standing;
 use terms::{Draft, Terms};
 
+// A sentence for each verdict, of this step alone: a `Display` would put them far from here.
 fn tell_verdict(rt: &HostRuntime, plan: &[Placement]) -> io::Result<()> {
     match check_plan(rt.alloc(), &Deadline, 3, plan)? {
         Verdict::NoPlan => println!(rt; "  The test says: this is no plan."),
