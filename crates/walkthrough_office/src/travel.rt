@@ -5,7 +5,6 @@ use orders::Ascending;
 use planner::Plan;
 use precedence::Deadline;
 use std::io;
-use telling::tell;
 use terms::Draft;
 
 const TEN: Draft = Draft {
@@ -22,9 +21,14 @@ const ELEVEN: Draft = Draft { number: 11, ..TEN };
 // What each call of a list answered, by the calls' names.
 fn tell_answers(rt: &HostRuntime, names: &[&str], answers: &[Answer]) -> io::Result<()> {
     for (name, answer) in names.iter().zip(answers) {
-        tell(rt, *name, answer.map(Told))?;
+        telling::tell(rt, *name, answer.map(Told))?;
     }
     Ok(())
+}
+
+// The file at the start of the output.
+fn file_in(out: &[u8], length: usize) -> &[u8] {
+    &out[..length.min(out.len())]
 }
 
 fn tell_file(rt: &HostRuntime, file: &[u8]) -> io::Result<()> {
@@ -99,13 +103,13 @@ pub fn tell(rt: &HostRuntime) -> io::Result<()> {
     )?;
     let mut plan = Plan::new(rt.alloc(), Deadline, Ascending)?;
     let out = tell_first(rt, &mut plan, &[])?;
-    tell_file(rt, &out[..29])?;
+    tell_file(rt, file_in(&out, 29))?;
     let mut damaged = out;
     damaged[28] = 8;
     println!(rt;
         "  Then a list of calls to a plan of three machines. On the way, the last byte of a copy became 8 (9 is the end)."
     )?;
-    tell_second(rt, &mut plan, &out[..29], &damaged[..29])?;
+    tell_second(rt, &mut plan, file_in(&out, 29), file_in(&damaged, 29))?;
     println!(rt;
         "  Refusal 8: no plan file under this rule; nothing changed. The sound file then replaced all that was planned."
     )?;
