@@ -58,8 +58,8 @@ impl<R: Precedence> Search<'_, R> {
         ensures jobs { roster.new.placements.items ≡ jobs_at self.now.terms primary status roster.old.placements.items result }
         ensures machines { roster.new.machines ≡ roster.old.machines }
     {
-        // No `find`, here and below: as in the plan test, the closure would change what it is given (here the roster
-        // and `space`), and the goal of `find` stays open.
+        // No `find`, here and below: the closure would change the roster and `space`, and std's lemmas on `find` ask
+        // that no call changes it (as those on `all`, in the plan test).
         for standby in self.turns {
             let p = Placement {
                 terms: self.terms,

@@ -1,5 +1,6 @@
 -- The sweep, step by step, and that it is the plan test.
-use Rattle.std.proofs.Common.{◌≡◌, ℕ, ◌+◌, ◌<◌, Bool, true, false, not, ◌&&◌, ◌||◌, eqb, List, [], ◌∷◌, ◌++◌, ◌⊎◌, map, length, get_or, take, is_some, Some, Option, unwrap_or, sym, refl, ap, ◌∙◌, ⊎_elim}
+use Rattle.std.proofs.Common.{◌≡◌, ℕ, ◌+◌, ◌<◌, Bool, true, false, not, ◌&&◌, ◌||◌, eqb, List, [], ◌∷◌, ◌++◌, map, length, get_or, take, is_some, Some, Option, unwrap_or, sym, refl, ap, ◌∙◌, ⊎_elim}
+use Rattle.std.specs.List.{list_all, zip}
 use Rattle.std.proofs.lemmas.List as lists
 use Rattle.std.proofs.lemmas.List.{get_or-map, length-map}
 use Rattle.std.proofs.lemmas.Bool.{and_from, and_parts, and_left, and_right, or_right, both_ways, cases_eq, eq-eqb, eqb-true, ne_eqb}
@@ -15,15 +16,14 @@ use Rattle.plantest.specs.Parts.{loss_with}
 use Rattle.plantest.specs.Sweep.{has_quiet, pair_fits, pair_passes, lost_passes, machine_passes, quiet_passes, sweep, late_fits, all_fit}
 use Rattle.plantest.proofs.Gathers.{loss_is}
 
--- where the placements or the latenesses end, all fit
-pub all_fit_end :
-    (before : Terms → Terms → Bool) (set : List JobCopy) (g f : ℕ) (lates : List ℕ) (ps : List Placement) → (ps ≡ []) ⊎ (lates ≡ []) →
-    all_fit before set g f lates ps ≡ true
-all_fit_end before set g f lates ps ended = ⊎_elim (λ e. ap (all_fit before set g f lates) e ∙ no_job lates) (λ e. ap (λ l. all_fit before set g f l ps) e) ended
-  where
-    no_job : (lates : List ℕ) → all_fit before set g f lates [] ≡ true
-    no_job [] = refl
-    no_job (late ∷ lates) = refl
+-- the test of all pairs is the test of both lists side by side
+pub all_fit_zip :
+    (before : Terms → Terms → Bool) (set : List JobCopy) (g f : ℕ) (lates : List ℕ) (ps : List Placement) →
+    list_all (λ (t : Placement × ℕ). late_fits before set g f t.1 t.0) (zip ps lates) ≡ all_fit before set g f lates ps
+all_fit_zip before set g f [] [] = refl
+all_fit_zip before set g f [] (p ∷ ps) = refl
+all_fit_zip before set g f (late ∷ lates) [] = refl
+all_fit_zip before set g f (late ∷ lates) (p ∷ ps) = ap (λ z. late_fits before set g f late p && z) (all_fit_zip before set g f lates ps)
 
 -- with the quiet figures as latenesses, in the loss set, it is the pair's test
 pub all_fit_is :

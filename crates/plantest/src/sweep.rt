@@ -40,12 +40,11 @@ impl<'a, R: Precedence> Tested<'a, R> {
         ensures { result ≡ all_fit (R.Precedence.before self.now.rule.now) (loss_with lates.now g f self.now.placements.now) g f lates.now self.now.placements.now }
     {
         self.gather_loss(lates, g, f, copies);
-        for (p, late) in self.placements.iter().zip(lates) {
-            if !fits_in(self.rule, copies.as_slice(), p, late, g, f) {
-                return false;
-            }
-        }
-        true
+        let set = copies.as_slice();
+        self.placements
+            .iter()
+            .zip(lates)
+            .all(|(p, late)| fits_in(self.rule, set, p, late, g, f))
     }
 }
 
