@@ -44,7 +44,8 @@ fn is_asked(placements: &[Placement], x: &Placement, g: u8, f: u8) -> bool
     any_asks(placements, here, there, g, f)
 }
 
-// The plan of a roster with a further job x in it, and how late its passive standbys are.
+// The plan of a roster with a further job x in it, and how late its passive standbys are. The plan test has a struct of
+// that kind for any list of placements; this one lends its roster to the test of a pair, which takes one.
 #[derive(Drop)]
 struct Beside<'a, R: Precedence> {
     rule: &'a R,

@@ -25,7 +25,8 @@ fn each_once_in(placements: &[Placement]) -> bool
     true
 }
 
-// Whether the placements are a plan of so many machines.
+// Whether the placements are a plan of so many machines. Their numbers may stand in any order, but for which a roster's
+// own test of a list is the same.
 pub(crate) fn is_plan_of(machines: u8, placements: &[Placement]) -> bool
     ensures { result ≡ is_plan machines placements.now }
 {
