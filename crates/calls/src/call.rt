@@ -14,7 +14,8 @@ pub enum Call<'a> {
     // a plan file
     Adopt(&'a [u8]),
     Figures(u32),
-    // the part of the list's output that this file may take: from `start` on, at most `size` bytes
+    // the part of the list's output that this file may take: from `start` on, at most `size` bytes; two numbers and no
+    // slice, since calls that each hold a slice to write to are no form that is proved today
     Write {
         start: usize,
         size: usize,

@@ -8,6 +8,9 @@ use precedence::Precedence;
 use rack::Placement;
 use roster::Roster;
 
+// Rule, roster and workspace are parameters of what this crate offers, since its callers hold them apart; `Tested` is
+// made of them here.
+
 // The quiet figure of a job in the plan of a roster.
 pub fn quiet_figure<R: Precedence>(
     rule: &R,

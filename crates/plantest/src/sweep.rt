@@ -33,6 +33,7 @@ fn fits_in<R: Precedence>(
     true
 }
 
+// `g` and `f` stand side by side throughout: two machine numbers, and a struct of the two would be taken apart at once.
 impl<'a, R: Precedence> Tested<'a, R> {
     // Whether every copy in the loss set of g when f stops has its figure there, with each placement's passive
     // lateness given.
