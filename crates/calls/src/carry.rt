@@ -27,7 +27,8 @@ fn write_at<R: Precedence + Drop, O: SearchOrder + Drop>(
 }
 
 // Carries out one call. The plan and the output stay two parameters: only a write touches the output, so a struct of
-// both would hide which call changes what.
+// both would hide which call changes what. The clause `same` stays, here and below: no type says that rule and order
+// are kept.
 fn carry_one<R: Precedence + Drop, O: SearchOrder + Drop>(
     plan: &mut Plan<R, O>,
     call: &Call,
