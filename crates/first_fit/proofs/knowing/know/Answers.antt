@@ -1,4 +1,4 @@
-use Rattle.std.proofs.Common.{◌≡◌, ◌<◌, ◌≤◌, length, vec_items, vec_len, sym, ap, ◌∙◌, arith}
+use Rattle.std.proofs.Common.{◌≡◌, ◌≤◌, length, vec_items, vec_len, sym, ap, ◌∙◌, arith}
 use Rattle.std.specs.List.{insert}
 use Rattle.rack.specs.declared.placement.Status.TheVariants.{Passive}
 use Rattle.roster.specs.Changes.{with_job}
@@ -18,7 +18,6 @@ returns-clause-ready g c =
     let known = c.all_lates.new.known.held in
     let count : length (vec_items known) ≡ length ps = ap length c.all_lates.ensures.figures ∙ map_length _ ps in
     let at : i ≤ vec_len known = omega (arith, within, count, known.ok.0) in
-    let room : vec_len known < 97 = omega (arith, count, known.ok.0, r.placements.ok.0, r.few) in
     let put = ap (λ l. insert l i p) (sym here) ∙ c.place_for-i.ensures.there ∙ ap (with_job p) here in
-    let is = c.as_slice.ensures ∙ c.insert.ensures.items at room ∙ ap (λ l. insert l i 0) c.all_lates.ensures.figures in
+    let is = c.as_slice.ensures ∙ c.insert.ensures.items at (omega (arith, count, known.ok.0, r.placements.ok.0, r.few)) ∙ ap (λ l. insert l i 0) c.all_lates.ensures.figures in
     ready_beside (g.R.Precedence.before c.args.rule.now) r.machines ps p i c.as_slice.result.now (sym c.if-not-roster_passes.ensures) within put is
