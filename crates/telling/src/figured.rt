@@ -14,7 +14,8 @@ pub struct Figured {
 impl From<(u32, u32, u32)> for Figured {
     ghost from_gives = { λ three f. (f.quiet ≡ three.0) × (f.largest ≡ three.1) × (f.standby ≡ three.2) };
 
-    fn from((quiet, largest, standby): (u32, u32, u32)) -> Figured {
+    fn from(three: (u32, u32, u32)) -> Figured {
+        let (quiet, largest, standby) = three;
         Figured {
             quiet,
             largest,

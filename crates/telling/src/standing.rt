@@ -15,7 +15,8 @@ pub struct Standing {
 impl From<(u8, u8, Status)> for Standing {
     ghost from_gives = { λ choice s. (s.primary ≡ choice.0) × (s.standby ≡ choice.1) × (s.status ≡ choice.2) };
 
-    fn from((primary, standby, status): (u8, u8, Status)) -> Standing {
+    fn from(choice: (u8, u8, Status)) -> Standing {
+        let (primary, standby, status) = choice;
         Standing {
             primary,
             standby,
