@@ -1,3 +1,4 @@
 pub mod Gathers
 pub mod Sweeps
 pub mod Listings
+pub mod PairFits
