@@ -7,10 +7,11 @@ ghost use Rattle.first_fit.specs.Trying.{choice_jobs, tried_first};
 use crate::admit::admit;
 use crate::plan::Plan;
 use crate::turns::turns_of;
-use first_fit::first_passing;
+use first_fit::{Passing, first_beside};
 use orders::SearchOrder;
 use precedence::Precedence;
 use rack::Status;
+use std::mem;
 use terms::{Draft, Refusal, Terms};
 
 impl<R: Precedence + Drop, O: SearchOrder + Drop> Plan<R, O> {
@@ -22,14 +23,21 @@ impl<R: Precedence + Drop, O: SearchOrder + Drop> Plan<R, O> {
     {
         let machines = self.roster.machines();
         let all = turns_of(&self.order, machines, &self.roster.loads());
-        first_passing(
-            &self.rule,
-            &mut self.roster,
+        let plan = Passing {
+            rule: &self.rule,
+            roster: &self.roster,
+        };
+        let choice = first_beside(
+            &plan,
+            &mut self.spare,
             &mut self.space,
             &mut self.lates,
             terms,
             &all[..machines as usize],
-        )
+        );
+        // the plan after the search, as it was where there is no choice
+        mem::swap(&mut self.roster, &mut self.spare);
+        choice
     }
 
     // Finds machines and a status for a job, and plans it.
