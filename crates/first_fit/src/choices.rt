@@ -80,7 +80,7 @@ impl<R: Precedence> Search<'_, R> {
     }
 
     // The first standby in turn with which the job passes on this primary and with this status.
-    fn try_standbys(
+    pub(crate) fn try_standbys(
         &self,
         roster: &mut Roster,
         space: &mut Workspace,

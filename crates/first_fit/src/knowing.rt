@@ -1,4 +1,5 @@
-ghost use Rattle.std.specs.Prelude.{true, ◌≡◌, IfSome, is_some, map};
+ghost use Rattle.std.specs.Prelude.{true, ◌≡◌, ◌≤◌, IfSome, is_some, map, vec_len};
+ghost use Rattle.std.specs.List.{insert};
 ghost use Rattle.rack.specs.Sets.{passive_late};
 ghost use Rattle.rack.specs.Test.{passes};
 ghost use Rattle.first_fit.specs.Beside.{Ready};
@@ -21,6 +22,15 @@ fn all_lates<R: Precedence>(rule: &R, roster: &Roster, space: &mut Workspace, kn
     }
 }
 
+// Leaves a place free among the figures of at most 96 jobs.
+fn free_place(known: &mut Figures, place: usize)
+    requires within { place ≤ vec_len known.old.held }
+    requires few { vec_len known.old.held ≤ 96 }
+    ensures { known.new.held.items ≡ insert known.old.held.items place 0 }
+{
+    known.insert(place, 0);
+}
+
 // The quiet figures of a plan that passes, which stand whichever choice for these terms is put in.
 pub(crate) fn known_of<'a, R: Precedence>(
     rule: &R,
@@ -40,7 +50,7 @@ pub(crate) fn known_of<'a, R: Precedence>(
         status: Status::Passive,
     };
     let i = place_for(roster.placements(), &p);
-    known.insert(i, 0);
+    free_place(known, i);
     known.as_slice()
 }
 
