@@ -43,13 +43,14 @@ fn search_from<R: Precedence>(
         turns,
         known: &[],
     };
-    let at = search.first_room(trial, space);
-    let (first, later) = turns[at..].split_first()?;
     // by itself, since the figures that further choices share cost more than this one
+    let (first, _) = turns.split_first()?;
     let choice = search.try_first(trial, space, &mut lates.tried, *first);
     if choice.is_some() {
         return choice;
     }
+    let at = search.first_room(trial, space);
+    let (first, later) = turns[at..].split_first()?;
     let known = known_of(rule, roster, space, &mut lates.known, terms);
     let search = Search { known, ..search };
     let choice = search.try_statuses(trial, space, &mut lates.tried, *first);
