@@ -15,12 +15,13 @@ use Rattle.rack.proofs.Parts.{fewer_pass}
 use Rattle.orders.specs.Turns.{EachOnce}
 use Rattle.orders.specs.TurnsLemmas.{every_turn}
 use Rattle.roster.specs.Changes.{addable, find, with_job, without}
+use Rattle.roster.specs.Loads.{loads}
 use Rattle.roster.specs.Rising.{placed, rising}
 use Rattle.roster.proofs.Jobs.{in_with_job, find_none, without_part}
 use Rattle.roster.proofs.Ordered.{rising_once, rising_with_job, rising_without}
 use Rattle.plantest.proofs.Listings.{placed_true}
 use Rattle.first_fit.specs.Choices.{Choice, placement_of, passes_beside, first_choice}
-use Rattle.planner.specs.Answers.{admitted_terms, chosen, jobs_with}
+use Rattle.planner.specs.Answers.{admitted_terms, chosen, jobs_with, place_admitted, tried_answer}
 use Rattle.planner.specs.Refused.{NoChoice, NoneBesideMore}
 use Rattle.first_fit.specs.Trying.{tried, tried_at, choice_jobs, tried_first}
 use Rattle.first_fit.proofs.Firsts.{choice_some, choice_none, choice_same}
@@ -131,6 +132,15 @@ module _ (before : Terms → Terms → Bool) (m : ℕ) (ps : List Placement) (t 
       (fewer_pass before m wider pass (with_job own ps)
       (rising_once (with_job own ps) (rising_with_job own ps up (find_none (number own) ps (is_none (find (number own) ps) new))))
       (λ q at. ⊎_elim (λ (same : q ≡ own). subst (λ x. In x wider) (sym same) w.has) (λ other. w.keeps q other) (in_with_job own q ps at)))
+
+-- what is answered where choices are tried is what is answered where they are tested
+pub tried_told :
+    (before : Terms → Terms → Bool) (turns : ℕ → List ℕ → List ℕ) (m : ℕ) (ps : List Placement) (o : Option Terms) (a : Result Terms Refusal) →
+    EachOnce m (turns m (loads ps)) → a ≡ admitted_terms ps o →
+    tried_answer (λ t. tried_first before m ps t (turns m (loads ps))) a ≡ place_admitted before turns m ps a
+tried_told before turns m ps o (Err e) each is = refl
+tried_told before turns m ps o (Ok t) each is =
+    let free = admitted_free ps o t is in ap chosen (tried_same before m ps t free.0 free.1 (turns m (loads ps)) each)
 
 -- fewer jobs never hurt
 pub keeps_without :
