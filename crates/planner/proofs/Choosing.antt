@@ -1,6 +1,5 @@
 -- What the first choice that passes says: of the job, of the plan after it, and of the job that has none.
 use Rattle.std.proofs.Common.{◌≡◌, ℕ, ◌<◌, Bool, true, false, cond, ◌&&◌, ltb, List, length, is_some, Some, None, Ok, Err, Option, Result, sym, refl, ap, ◌∙◌, subst, ⊎_elim, arith}
-use Rattle.std.specs.Option.{ok_or}
 use Rattle.std.proofs.lemmas.List.{get_or_default}
 use Rattle.std.proofs.lemmas.Bool.{and_parts, cond_both, lt-ltb, ltb-true, not_from_false}
 use Rattle.terms.specs.declared.terms.Terms.{Terms}
@@ -50,11 +49,6 @@ admitted_free ps (Some u) t e =
 pub jobs_chosen : (t : Terms) (ps : List Placement) (o : Option Choice) → choice_jobs t ps o ≡ jobs_with ps (Ok t) (chosen o)
 jobs_chosen t ps None = refl
 jobs_chosen t ps (Some c) = refl
-
--- a choice as an answer
-pub chosen_is : (o : Option Choice) → ok_or o NoPlace ≡ chosen o
-chosen_is None = refl
-chosen_is (Some c) = refl
 
 -- refusal 5 is the answer where there is no choice
 pub chosen_refused : (o : Option Choice) → chosen o ≡ Err NoPlace → o ≡ None

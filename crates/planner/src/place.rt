@@ -41,7 +41,6 @@ impl<R: Precedence + Drop, O: SearchOrder + Drop> Plan<R, O> {
     }
 
     // Tries the choices for a draft that may be planned, and answers the first that passed; or the refusal.
-    #[tactic(auto, using(crate::proofs::Choosing::jobs_chosen, crate::proofs::Choosing::chosen_is))]
     fn try_draft(&mut self, draft: Draft) -> Result<(u8, u8, Status), Refusal>
         ensures answer { result ≡ tried_answer (λ terms. tried_first (R.Precedence.before self.old.rule) self.old.roster.machines self.old.roster.placements.items terms (O.SearchOrder.turns self.old.order self.old.roster.machines (loads self.old.roster.placements.items))) (admitted self.old.roster.placements.items draft) }
         ensures jobs { self.new.roster.placements.items ≡ jobs_with self.old.roster.placements.items (admitted self.old.roster.placements.items draft) result }
