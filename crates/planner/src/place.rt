@@ -1,6 +1,6 @@
 ghost use Rattle.std.specs.Prelude.{◌≡◌};
 ghost use Rattle.roster.specs.Loads.{loads};
-ghost use Rattle.planner.specs.Answers.{place_answer, place_jobs};
+ghost use Rattle.planner.specs.Answers.{admitted, jobs_with, place_answer, place_jobs, tried_answer};
 ghost use Rattle.planner.specs.Refused.{PlaceMeans};
 ghost use Rattle.first_fit.specs.Trying.{choice_jobs, tried_first};
 
@@ -40,6 +40,16 @@ impl<R: Precedence + Drop, O: SearchOrder + Drop> Plan<R, O> {
         choice
     }
 
+    // Tries the choices for a draft that may be planned, and answers the first that passed; or the refusal.
+    fn try_draft(&mut self, draft: Draft) -> Result<(u8, u8, Status), Refusal>
+        ensures answer { result ≡ tried_answer (λ terms. tried_first (R.Precedence.before self.old.rule) self.old.roster.machines self.old.roster.placements.items terms (O.SearchOrder.turns self.old.order self.old.roster.machines (loads self.old.roster.placements.items))) (admitted self.old.roster.placements.items draft) }
+        ensures jobs { self.new.roster.placements.items ≡ jobs_with self.old.roster.placements.items (admitted self.old.roster.placements.items draft) result }
+        ensures same { (self.new.rule ≡ self.old.rule) × (self.new.order ≡ self.old.order) × (self.new.roster.machines ≡ self.old.roster.machines) }
+    {
+        let terms = admit(&self.roster, draft)?;
+        self.try_in_turn(terms).ok_or(Refusal::NoPlace)
+    }
+
     // Finds machines and a status for a job, and plans it.
     // Primary, standby and status stand as a triple: the form in which the calls answer is fixed.
     pub fn place(&mut self, draft: Draft) -> Result<(u8, u8, Status), Refusal>
@@ -48,7 +58,6 @@ impl<R: Precedence + Drop, O: SearchOrder + Drop> Plan<R, O> {
         ensures same { (self.new.rule ≡ self.old.rule) × (self.new.order ≡ self.old.order) × (self.new.roster.machines ≡ self.old.roster.machines) }
         ensures means { PlaceMeans (R.Precedence.before self.old.rule) self.old.roster.machines self.old.roster.placements.items draft result }
     {
-        let terms = admit(&self.roster, draft)?;
-        self.try_in_turn(terms).ok_or(Refusal::NoPlace)
+        self.try_draft(draft)
     }
 }
