@@ -16,6 +16,7 @@ use terms::{Draft, Refusal, Terms};
 
 impl<R: Precedence + Drop, O: SearchOrder + Drop> Plan<R, O> {
     // The first choice in the order's turns under the loads now.
+    #[tactic(auto, using(crate::proofs::Choosing::choice_passes))]
     fn try_in_turn(&mut self, terms: Terms) -> Option<(u8, u8, Status)>
         ensures chosen { result ≡ tried_first (R.Precedence.before self.old.rule) self.old.roster.machines self.old.roster.placements.items terms (O.SearchOrder.turns self.old.order self.old.roster.machines (loads self.old.roster.placements.items)) }
         ensures jobs { self.new.roster.placements.items ≡ choice_jobs terms self.old.roster.placements.items result }
