@@ -32,6 +32,10 @@ module _ (before : Terms → Terms → Bool) (set : List JobCopy) (own : JobCopy
   pub below_window : (x : ℕ) → Below x → x ≡ demand before set own x → Window before set own x
   below_window x b e = record { some = b.some; fixed = e; least = b.under }
 
+  -- a window is no shorter than what is asked of a number below it
+  pub below_within : (x y : ℕ) → Below x → Window before set own y → demand before set own x ≤ y
+  below_within x y b w = omega (arith, w.fixed, demand_mono before set own x y (b.under y w.some w.fixed))
+
   same_window : (x y : ℕ) → Window before set own x → Window before set own y → x ≡ y
   same_window x y w v = omega (arith, w.least y v.some v.fixed, v.least x w.some w.fixed)
 

@@ -51,6 +51,7 @@ impl<'a, R: Precedence> Held<'a, R> {
     }
 
     // The least x with x = demand in x, if with the copy's lateness it ends within the deadline.
+    #[tactic(auto, using(crate::proofs::Climbs::below_within))]
     fn window(&self) -> Option<u32>
         ensures { Windowed (R.Precedence.before self.now.rule.now) self.now.set.now self.now.own.now result }
     {
@@ -75,11 +76,13 @@ pub fn window<R: Precedence>(rule: &R, set: &[JobCopy], own: &JobCopy) -> Option
 
 // The copy's figure in the set: its window and its lateness, if that is within the deadline.
 // What it means is that of a least window; and less work never makes it larger.
+#[tactic(auto, using(crate::proofs::Climbs::figure_with, crate::proofs::Climbs::figure_figured, crate::proofs::Shrinks::no_longer))]
 pub fn figure<R: Precedence>(rule: &R, set: &[JobCopy], own: &JobCopy) -> Option<u32>
     ensures value { result ≡ figure_of (R.Precedence.before rule.now) set.now own.now }
     ensures least { Figured (R.Precedence.before rule.now) set.now own.now (figure_of (R.Precedence.before rule.now) set.now own.now) }
     ensures lighter { NoLonger (R.Precedence.before rule.now) set.now own.now (figure_of (R.Precedence.before rule.now) set.now own.now) }
 {
-    let x = window(rule, set, own)?;
+    let held = Held { rule, set, own };
+    let x = held.window()?;
     Some(x + own.lateness)
 }

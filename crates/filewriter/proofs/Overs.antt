@@ -63,18 +63,14 @@ over_more ps i p out d new bytes h is room before made put =
 
 -- head, jobs and end, each written after the other
 pub over_all :
-    (code m : ℕ) (ps : List Placement) (d headed filled ended : List ℕ) → 3 ≤ length d →
-    headed ≡ over 0 (encode (head code m)) d → filled ≡ over 3 (jobs_of ps) headed →
-    ended ≡ over (3 + 25 * length ps) (encode end) filled →
-    ended ≡ file_of code m ps ++ drop (file_length ps) d
-over_all code m ps d headed filled ended room first then last =
+    (code m : ℕ) (ps : List Placement) (d : List ℕ) → 3 ≤ length d →
+    over (3 + 25 * length ps) (encode end) (over 3 (jobs_of ps) (over 0 (encode (head code m)) d)) ≡ file_of code m ps ++ drop (file_length ps) d
+over_all code m ps d room =
     let top = encode (head code m) in
     let jobs = jobs_of ps in
-    let two : filled ≡ over 0 (top ++ jobs) d =
-    then ∙ ap (λ (v : List ℕ). over 3 jobs v) first ∙ over_over 0 top jobs d 3 (omega arith) refl in
+    let two : over 3 jobs (over 0 top d) ≡ over 0 (top ++ jobs) d = over_over 0 top jobs d 3 (omega arith) refl in
     let size : 3 + 25 * length ps ≡ 0 + length (top ++ jobs) = omega (arith, length_jobs ps) in
-    let three : ended ≡ over 0 (top ++ jobs ++ encode end) d =
-    last ∙ ap (λ (v : List ℕ). over (3 + 25 * length ps) (encode end) v) two
-    ∙ over_over 0 (top ++ jobs) (encode end) d (3 + 25 * length ps) (omega arith) size in
     let ends : 0 + length (file_of code m ps) ≡ file_length ps = omega (arith, length_file code m ps) in
-    three ∙ ap (λ (n : ℕ). file_of code m ps ++ drop n d) ends
+    ap (λ (v : List ℕ). over (3 + 25 * length ps) (encode end) v) two
+    ∙ over_over 0 (top ++ jobs) (encode end) d (3 + 25 * length ps) (omega arith) size
+    ∙ ap (λ (n : ℕ). file_of code m ps ++ drop n d) ends

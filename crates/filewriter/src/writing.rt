@@ -27,6 +27,7 @@ fn put_jobs(placements: &[Placement], out: &mut [u8])
 }
 
 // The roster's file, where there is room for it.
+#[tactic(auto, using(crate::proofs::Overs::over_all))]
 fn put_roster(code: u8, roster: &Roster, out: &mut [u8])
     requires { file_length roster.now.placements.items ≤ length out.old }
     ensures { out.new ≡ file_of code roster.now.machines roster.now.placements.items ++ drop (file_length roster.now.placements.items) out.old }

@@ -1,10 +1,11 @@
 -- The first choice that a test takes: how a search finds it, and what it says of the choices before it.
 use Rattle.std.proofs.Common.{◌≡◌, ℕ, Bool, true, cond, not, ◌&&◌, eqb, ◌⊎◌, List, [], ◌∷◌, Some, None, Option, sym, refl, ap, ◌∙◌, inl, inr, ⊎_elim, arith}
-use Rattle.std.proofs.lemmas.Bool.{cases_eq, and_from, and_parts, and_left, both_ways, cond_both, eq-eqb, ne_eqb, eqb-false, not-true, not_from_true, not_from_false}
+use Rattle.std.specs.List.{find}
+use Rattle.std.proofs.lemmas.Bool.{cond-true, cond-false, cases_eq, and_from, and_parts, and_left, both_ways, cond_both, eq-eqb, ne_eqb, eqb-false, not-true, not_from_true, not_from_false}
 use Rattle.rack.specs.declared.placement.Status.{Status}
 use Rattle.rack.specs.declared.placement.Status.TheVariants.{Passive, Active}
 use Rattle.rack.specs.Plan.{In}
-use Rattle.first_fit.specs.Choices.{Choice, first_standby, chosen_or, first_choice}
+use Rattle.first_fit.specs.Choices.{Choice, first_standby, chosen_or, first_with, first_choice}
 
 module _ (test : ℕ → Bool) (p : ℕ) where
   -- the standby that is taken is one of the list, is not the primary, and passes the test
@@ -124,3 +125,21 @@ choice_same test other (p ∷ ps) turns same =
     let active = standby_same (test p Active) (other p Active) p turns (λ b at apart. same p b Active (inl refl) at apart) in
     let rest = choice_same test other ps turns (λ q b status at. same q b status (inr at)) in
     cc
+
+-- the first other machine in turn is taken, if the test holds of it
+pub first_other :
+    (test : Status → ℕ → Bool) (p : ℕ) (turns : List ℕ) (b : ℕ) → find (λ x. not (eqb x p)) turns ≡ Some b → test Passive b ≡ true →
+    first_with test p turns None ≡ Some (p, b, Passive)
+first_other test p turns b is takes = ap (λ o. chosen_or p Passive o (chosen_or p Active (first_standby (test Active) p turns) None)) (go turns is)
+  where
+    go : (bs : List ℕ) → find (λ x. not (eqb x p)) bs ≡ Some b → first_standby (test Passive) p bs ≡ Some b
+    go [] e = let z : ◌≡◌ {A = ℕ} 0 1 = cc in absurd (omega arith)
+    go (x ∷ bs) e =
+        cond_both (not (eqb x p)) (Some x) (find (λ y. not (eqb y p)) bs) (λ o. o ≡ Some b → first_standby (test Passive) p (x ∷ bs) ≡ Some b)
+        (λ apart here.
+        let same : x ≡ b = cc in
+        cond-true (not (eqb x p) && test Passive x) (Some x) (first_standby (test Passive) p bs) (and_from (not (eqb x p)) (test Passive x) apart (ap (test Passive) same ∙ takes))
+        ∙ ap (λ (k : ℕ). Some k) same)
+        (λ own later.
+        cond-false (not (eqb x p) && test Passive x) (Some x) (first_standby (test Passive) p bs) (and_left (not (eqb x p)) (test Passive x) own) ∙ go bs later)
+        e

@@ -1,6 +1,7 @@
 -- A machine on which a job's primary leaves some quiet figure missing fails for every standby and status.
-use Rattle.std.proofs.Common.{◌≡◌, ℕ, Bool, true, false, cond, not, ◌&&◌, eqb, ltb, List, [], ◌∷◌, ◌++◌, is_some, Some, None, sym, refl, ap, ◌∙◌, ⊎_elim}
+use Rattle.std.proofs.Common.{◌≡◌, ℕ, ◌+◌, ◌<◌, Bool, true, false, cond, not, ◌&&◌, eqb, ltb, List, [], ◌∷◌, ◌++◌, length, get_or, drop, is_some, Some, None, Option, sym, refl, ap, ◌∙◌, ⊎_elim}
 use Rattle.std.proofs.lemmas.Bool.{and_right, both_ways, cases_Bool, cond-true, cond-false, eq-eqb, eqb-true, not_from_false, or_left, or_right}
+use Rattle.std.proofs.lemmas.List.{drop_more}
 use Rattle.terms.specs.declared.terms.Terms.{Terms}
 use Rattle.figures.specs.declared.copies.JobCopy.{JobCopy}
 use Rattle.figures.specs.declared.copies.Role.TheVariants.{Primary, Standby}
@@ -15,7 +16,7 @@ use Rattle.rack.proofs.Tested.{each_all_of, passes_means}
 use Rattle.roster.specs.Changes.{with_job, addable}
 use Rattle.roster.proofs.Jobs.{in_with_job, with_job_has, with_job_keeps}
 use Rattle.plantest.specs.Sweep.{has_quiet}
-use Rattle.first_fit.specs.Choices.{placement_of, chosen_or, first_standby, first_with}
+use Rattle.first_fit.specs.Choices.{Choice, placement_of, chosen_or, first_standby, first_with, first_choice}
 use Rattle.first_fit.specs.Room.{quiet_on}
 use Rattle.first_fit.specs.Trying.{tried_at}
 
@@ -93,8 +94,22 @@ standby_never test p [] never = refl
 standby_never test p (b ∷ bs) never =
     cond-false (not (eqb b p) && test b) (Some b) (first_standby test p bs) (and_right (not (eqb b p)) (test b) (never b)) ∙ standby_never test p bs never
 
--- so there is no choice with this primary
+-- so a primary with which no test is passed is passed over
+pub passed_over :
+    (test : Status → ℕ → Bool) (p : ℕ) (turns : List ℕ) (next : Option Choice) → ((b : ℕ) (status : Status) → test status b ≡ false) →
+    first_with test p turns next ≡ next
+passed_over test p turns next never =
+    ap (λ o. chosen_or p Passive o (chosen_or p Active (first_standby (test Active) p turns) next)) (standby_never (test Passive) p turns (λ b. never b Passive))
+    ∙ ap (λ o. chosen_or p Active o next) (standby_never (test Active) p turns (λ b. never b Active))
+
+-- and there is no choice with it
 pub none_with : (test : Status → ℕ → Bool) (p : ℕ) (turns : List ℕ) → ((b : ℕ) (status : Status) → test status b ≡ false) → first_with test p turns None ≡ None
-none_with test p turns never =
-    ap (λ o. chosen_or p Passive o (chosen_or p Active (first_standby (test Active) p turns) None)) (standby_never (test Passive) p turns (λ b. never b Passive))
-    ∙ ap (λ o. chosen_or p Active o None) (standby_never (test Active) p turns (λ b. never b Active))
+none_with test p turns never = passed_over test p turns None never
+
+-- the search goes on behind it
+pub goes_on :
+    (test : ℕ → Status → ℕ → Bool) (turns all : List ℕ) (i : ℕ) → i < length all → ((b : ℕ) (status : Status) → test (get_or all i 0) status b ≡ false) →
+    first_choice test (drop i all) turns ≡ first_choice test (drop (i + 1) all) turns
+goes_on test turns all i lt never =
+    ap (λ l. first_choice test l turns) (drop_more all i 0 lt)
+    ∙ passed_over (test (get_or all i 0)) (get_or all i 0) turns (first_choice test (drop (i + 1) all) turns) never

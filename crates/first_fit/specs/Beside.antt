@@ -1,5 +1,5 @@
 -- What of a plan a further job can change, and the plan test of that alone.
-use Rattle.std.specs.Prelude.{◌≡◌, ℕ, ◌<◌, Bool, true, false, not, ◌&&◌, ◌||◌, List, length, Some, ◌==◌, slice_index, slice_index_or}
+use Rattle.std.specs.Prelude.{◌≡◌, ℕ, ◌<◌, Bool, true, false, not, ◌&&◌, ◌||◌, ◌⊎◌, List, [], length, Some, ◌==◌, slice_index, slice_index_or}
 use Rattle.std.specs.List.{list_any}
 use Rattle.terms.specs.declared.terms.Terms.{Terms}
 use Rattle.rack.specs.declared.placement.Placement.{Placement}
@@ -52,3 +52,11 @@ pub record Known (before : Terms → Terms → Bool) (x : Placement) (ps : List 
 pub record Ready (before : Terms → Terms → Bool) (m : ℕ) (ps : List Placement) (t : Terms) (known : List ℕ) : Type 0 where
   pub passing : passes before m ps ≡ true
   pub beside : (x : Placement) → x.terms ≡ t → addable m ps x ≡ true → Known before x (with_job x ps) known
+
+-- the same, where nothing may be known yet
+abbrev pub KnownYet : (Terms → Terms → Bool) → Placement → List Placement → List ℕ → Type 0
+KnownYet before x ps known = (known ≡ []) ⊎ Known before x ps known
+
+-- a plan that passes, of which nothing may be known yet
+abbrev pub ReadyYet : (Terms → Terms → Bool) → ℕ → List Placement → Terms → List ℕ → Type 0
+ReadyYet before m ps t known = (passes before m ps ≡ true) × ((known ≡ []) ⊎ Ready before m ps t known)

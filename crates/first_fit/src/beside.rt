@@ -1,8 +1,8 @@
-ghost use Rattle.std.specs.Prelude.{◌≡◌, ◌&&◌, IfSome, is_some, map};
+ghost use Rattle.std.specs.Prelude.{◌≡◌, ◌&&◌, IfSome, is_some, map, true};
 ghost use Rattle.rack.specs.Sets.{passive_late};
 ghost use Rattle.rack.specs.Test.{all_below};
 ghost use Rattle.plantest.specs.Sweep.{pair_passes, quiet_passes};
-ghost use Rattle.first_fit.specs.Beside.{Known, any_of, asked, asks, changed, machine_beside, pair_beside, touched_passes};
+ghost use Rattle.first_fit.specs.Beside.{KnownYet, any_of, asked, asks, changed, machine_beside, pair_beside, touched_passes};
 
 use crate::latenesses::Figures;
 use crate::search::Search;
@@ -63,15 +63,20 @@ impl<R: Precedence> Beside<'_, R> {
         pair_passes(self.rule, self.roster, self.lates, g, f, space)
     }
 
-    // The same where it is asked for beside the job.
+    // The same where it is asked for beside the job, whose own standby's pair has been tested.
     fn pair_beside(&self, space: &mut Workspace, g: u8, f: u8) -> bool
+        requires { pair_passes (R.Precedence.before self.now.rule.now) self.now.roster.now.placements.items self.now.x.now.standby self.now.x.now.primary ≡ true }
         ensures { result ≡ pair_beside (R.Precedence.before self.now.rule.now) self.now.x.now self.now.roster.now.placements.items g f }
     {
-        f == g || !is_asked(self.roster.placements(), self.x, g, f) || self.pair_fits(space, g, f)
+        f == g
+            || (g == self.x.standby && f == self.x.primary)
+            || !is_asked(self.roster.placements(), self.x, g, f)
+            || self.pair_fits(space, g, f)
     }
 
     // The same whichever machine stops.
     fn machine_beside(&self, space: &mut Workspace, g: u8) -> bool
+        requires { pair_passes (R.Precedence.before self.now.rule.now) self.now.roster.now.placements.items self.now.x.now.standby self.now.x.now.primary ≡ true }
         ensures { result ≡ machine_beside (R.Precedence.before self.now.rule.now) self.now.roster.now.machines self.now.x.now self.now.roster.now.placements.items g }
     {
         // No `all`, here and below: as in the plan test, the closure would change `space`, and the goal of `all` stays
@@ -102,7 +107,7 @@ impl<R: Precedence> Beside<'_, R> {
 
 impl<R: Precedence> Search<'_, R> {
     // If every primary has its quiet figure beside the job, these: the latenesses of the passive standbys. What is
-    // known of a primary stands unless its machine has changed.
+    // known of a primary stands unless its machine has changed; where nothing is known yet, each is asked for.
     fn quiet_beside<'a>(
         &self,
         roster: &Roster,
@@ -110,17 +115,21 @@ impl<R: Precedence> Search<'_, R> {
         lates: &'a mut Figures,
         x: &Placement,
     ) -> Option<&'a [u32]>
-        requires { Known (R.Precedence.before self.now.rule.now) x.now roster.now.placements.items self.now.known.now }
+        requires { KnownYet (R.Precedence.before self.now.rule.now) x.now roster.now.placements.items self.now.known.now }
         ensures test { is_some result ≡ quiet_passes (R.Precedence.before self.now.rule.now) roster.now.placements.items }
         ensures figures { IfSome result (λ l. l.now ≡ map (passive_late (R.Precedence.before self.now.rule.now) roster.now.placements.items) roster.now.placements.items) }
     {
         lates.clear();
         // No `extend`: its closure would change `space`, and it may ask for memory.
-        for (p, known) in roster.placements().iter().zip(self.known) {
-            let late = if is_changed(x, p.primary) {
-                quiet_figure(self.rule, roster, p, space)?
+        for (i, p) in roster.placements().iter().enumerate() {
+            let known = if is_changed(x, p.primary) {
+                None
             } else {
-                *known
+                self.known.get(i)
+            };
+            let late = match known {
+                Some(figure) => *figure,
+                None => quiet_figure(self.rule, roster, p, space)?,
             };
             lates.push(late);
         }
@@ -135,7 +144,7 @@ impl<R: Precedence> Search<'_, R> {
         lates: &mut Figures,
         x: &Placement,
     ) -> bool
-        requires { Known (R.Precedence.before self.now.rule.now) x.now roster.now.placements.items self.now.known.now }
+        requires { KnownYet (R.Precedence.before self.now.rule.now) x.now roster.now.placements.items self.now.known.now }
         ensures { result ≡ touched_passes (R.Precedence.before self.now.rule.now) roster.now.machines x.now roster.now.placements.items }
     {
         let Some(lates) = self.quiet_beside(roster, space, lates, x) else {

@@ -1,6 +1,7 @@
-ghost use Rattle.std.specs.Prelude.{◌≡◌, if◌then◌else◌, None};
-ghost use Rattle.first_fit.specs.Beside.{Ready};
-ghost use Rattle.first_fit.specs.Choices.{first_standby, first_with};
+ghost use Rattle.std.specs.Prelude.{◌≡◌, ◌==◌, if◌then◌else◌, not, None, Some, IfSome};
+ghost use Rattle.std.specs.List.{find};
+ghost use Rattle.first_fit.specs.Beside.{Ready, ReadyYet};
+ghost use Rattle.first_fit.specs.Choices.{first_choice, first_standby, first_with};
 ghost use Rattle.first_fit.specs.Trying.{choice_jobs, jobs_at, tried, tried_at, tried_first};
 ghost use Rattle.roster.specs.Changes.{with_job};
 
@@ -13,6 +14,13 @@ use precedence::Precedence;
 use rack::{Placement, Status};
 use roster::Roster;
 use terms::Terms;
+
+// The first machine in turn other than this one.
+fn other_than(turns: &[u8], primary: u8) -> Option<u8>
+    ensures { result ≡ find (λ b. not (b == primary)) turns.now }
+{
+    turns.iter().copied().find(|machine| *machine != primary)
+}
 
 // Roster and memory are parameters and no fields: behind `&mut self` each method would have to say besides that its
 // references are still the same ones and that all else stays.
@@ -29,7 +37,7 @@ impl<R: Precedence> Search<'_, R> {
         lates: &mut Figures,
         p: Placement,
     ) -> bool
-        requires { Ready (R.Precedence.before self.now.rule.now) roster.old.machines roster.old.placements.items p.terms self.now.known.now }
+        requires { ReadyYet (R.Precedence.before self.now.rule.now) roster.old.machines roster.old.placements.items p.terms self.now.known.now }
         ensures test { result ≡ tried (R.Precedence.before self.now.rule.now) roster.old.machines roster.old.placements.items p }
         ensures jobs { roster.new.placements.items ≡ (if result then with_job p roster.old.placements.items else roster.old.placements.items) }
         ensures machines { roster.new.machines ≡ roster.old.machines }
@@ -44,8 +52,35 @@ impl<R: Precedence> Search<'_, R> {
         false
     }
 
+    // The first choice of all with this primary, if it passes: passive on the first other machine in turn.
+    pub(crate) fn try_first(
+        &self,
+        roster: &mut Roster,
+        space: &mut Workspace,
+        lates: &mut Figures,
+        primary: u8,
+    ) -> Option<(u8, u8, Status)>
+        requires { ReadyYet (R.Precedence.before self.now.rule.now) roster.old.machines roster.old.placements.items self.now.terms self.now.known.now }
+        ensures chosen { IfSome result (λ c. first_with (tried_at (R.Precedence.before self.now.rule.now) roster.old.machines roster.old.placements.items self.now.terms primary) primary self.now.turns.now None ≡ Some c) }
+        ensures jobs { roster.new.placements.items ≡ choice_jobs self.now.terms roster.old.placements.items result }
+        ensures machines { roster.new.machines ≡ roster.old.machines }
+    {
+        let standby = other_than(self.turns, primary)?;
+        let p = Placement {
+            terms: self.terms,
+            primary,
+            standby,
+            status: Status::Passive,
+        };
+        if self.try_beside(roster, space, lates, p) {
+            Some((primary, standby, Status::Passive))
+        } else {
+            None
+        }
+    }
+
     // The first standby in turn with which the job passes on this primary and with this status.
-    fn try_standbys(
+    pub(crate) fn try_standbys(
         &self,
         roster: &mut Roster,
         space: &mut Workspace,
@@ -74,7 +109,27 @@ impl<R: Precedence> Search<'_, R> {
         None
     }
 
-    // The first choice with this primary, if it finds room there: passive with each standby in turn, then active.
+    // The first choice with this primary: passive with each standby in turn, then active.
+    pub(crate) fn try_statuses(
+        &self,
+        roster: &mut Roster,
+        space: &mut Workspace,
+        lates: &mut Figures,
+        primary: u8,
+    ) -> Option<(u8, u8, Status)>
+        requires { Ready (R.Precedence.before self.now.rule.now) roster.old.machines roster.old.placements.items self.now.terms self.now.known.now }
+        ensures chosen { result ≡ first_with (tried_at (R.Precedence.before self.now.rule.now) roster.old.machines roster.old.placements.items self.now.terms primary) primary self.now.turns.now None }
+        ensures jobs { roster.new.placements.items ≡ choice_jobs self.now.terms roster.old.placements.items result }
+        ensures machines { roster.new.machines ≡ roster.old.machines }
+    {
+        if let Some(standby) = self.try_standbys(roster, space, lates, primary, Status::Passive) {
+            return Some((primary, standby, Status::Passive));
+        }
+        let standby = self.try_standbys(roster, space, lates, primary, Status::Active)?;
+        Some((primary, standby, Status::Active))
+    }
+
+    // The same, if the job finds room on this primary.
     fn try_primary(
         &self,
         roster: &mut Roster,
@@ -90,27 +145,23 @@ impl<R: Precedence> Search<'_, R> {
         if !self.has_room(roster, space, primary) {
             return None;
         }
-        if let Some(standby) = self.try_standbys(roster, space, lates, primary, Status::Passive) {
-            return Some((primary, standby, Status::Passive));
-        }
-        let standby = self.try_standbys(roster, space, lates, primary, Status::Active)?;
-        Some((primary, standby, Status::Active))
+        self.try_statuses(roster, space, lates, primary)
     }
 
-    // The first choice of all: each primary in turn.
-    #[tactic(auto, unfolding(crate::specs::Trying::tried_first))]
-    fn try_primaries(
+    // The first choice with these primaries, each in turn.
+    pub(crate) fn try_primaries(
         &self,
         roster: &mut Roster,
         space: &mut Workspace,
         lates: &mut Figures,
+        primaries: &[u8],
     ) -> Option<(u8, u8, Status)>
         requires { Ready (R.Precedence.before self.now.rule.now) roster.old.machines roster.old.placements.items self.now.terms self.now.known.now }
-        ensures chosen { result ≡ tried_first (R.Precedence.before self.now.rule.now) roster.old.machines roster.old.placements.items self.now.terms self.now.turns.now }
+        ensures chosen { result ≡ first_choice (tried_at (R.Precedence.before self.now.rule.now) roster.old.machines roster.old.placements.items self.now.terms) primaries.now self.now.turns.now }
         ensures jobs { roster.new.placements.items ≡ choice_jobs self.now.terms roster.old.placements.items result }
         ensures machines { roster.new.machines ≡ roster.old.machines }
     {
-        for primary in self.turns {
+        for primary in primaries {
             if let Some(choice) = self.try_primary(roster, space, lates, *primary) {
                 return Some(choice);
             }
@@ -121,6 +172,7 @@ impl<R: Precedence> Search<'_, R> {
 
 // The first choice in these turns with which the plan passes, put in; where there is none the plan stays as it is.
 // Where the plan does not pass by itself, it does not with a further job either.
+#[tactic(auto, unfolding(crate::specs::Trying::tried_first))]
 pub fn first_passing<R: Precedence>(
     rule: &R,
     roster: &mut Roster,
@@ -140,5 +192,5 @@ pub fn first_passing<R: Precedence>(
         turns,
         known,
     };
-    search.try_primaries(roster, space, &mut lates.tried)
+    search.try_primaries(roster, space, &mut lates.tried, turns)
 }

@@ -6,10 +6,12 @@ mod beside;
 mod choices;
 mod knowing;
 mod latenesses;
+mod passing;
 mod room;
 mod search;
 mod trying;
 
 pub use choices::first_passing;
 pub use latenesses::Latenesses;
+pub use passing::{Passing, first_beside};
 pub use trying::try_choice;

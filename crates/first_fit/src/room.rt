@@ -1,6 +1,7 @@
-ghost use Rattle.std.specs.Prelude.{◌≡◌, ℕ, false};
+ghost use Rattle.std.specs.Prelude.{◌≡◌, ◌≤◌, ℕ, false, length, drop};
 ghost use Rattle.rack.specs.Test.{all_of};
 ghost use Rattle.rack.specs.declared.placement.Status.{Status};
+ghost use Rattle.first_fit.specs.Choices.{first_choice};
 ghost use Rattle.first_fit.specs.Room.{quiet_on};
 ghost use Rattle.first_fit.specs.Trying.{tried_at};
 
@@ -45,5 +46,20 @@ impl<R: Precedence> Search<'_, R> {
         let quiet = self.all_quiet_on(roster, space, primary);
         take_back(roster, &p);
         quiet
+    }
+
+    // The place in the turns of the first machine where it may; their length where there is none.
+    pub(crate) fn first_room(&self, roster: &mut Roster, space: &mut Workspace) -> usize
+        ensures within { result ≤ length self.now.turns.now }
+        ensures chosen { first_choice (tried_at (R.Precedence.before self.now.rule.now) roster.old.machines roster.old.placements.items self.now.terms) self.now.turns.now self.now.turns.now ≡ first_choice (tried_at (R.Precedence.before self.now.rule.now) roster.old.machines roster.old.placements.items self.now.terms) (drop result self.now.turns.now) self.now.turns.now }
+        ensures jobs { roster.new.placements.items ≡ roster.old.placements.items }
+        ensures machines { roster.new.machines ≡ roster.old.machines }
+    {
+        for (i, primary) in self.turns.iter().enumerate() {
+            if self.has_room(roster, space, *primary) {
+                return i;
+            }
+        }
+        self.turns.len()
     }
 }

@@ -19,11 +19,19 @@ fn comes_before(loads: &[u64; 16], a: u8, b: u8) -> bool
 }
 
 // How many machines below the count come before machine `g`.
+#[tactic(auto, using(crate::proofs::Places::rank_by_count))]
 fn rank_of(count: u8, loads: &[u64; 16], g: u8) -> usize
     requires { (count ≤ 16) × (g < count) }
     ensures { result ≡ count_by (λ h. lighter loads.now h g) (range_with_len 0 count) }
 {
-    (0..count).filter(|&h| comes_before(loads, h, g)).count()
+    // a loop: `filter` and `count` made a turn more than twice as slow
+    let mut before = 0;
+    for h in 0..count {
+        if comes_before(loads, h, g) {
+            before += 1;
+        }
+    }
+    before
 }
 
 // The machine at place `k` below the count: as many come before it as stand before it.

@@ -256,6 +256,7 @@ fn rows() -> &'static [(u8, u8); 240]
 }
 
 // The primary and the standby machine of a pair byte. The bytes 240 to 255 are no pairs.
+#[tactic(auto, using(crate::proofs::Rule::looked_up))]
 pub fn machines_of(pair: u8) -> Option<(u8, u8)>
     ensures { result ≡ pair_machines pair }
 {

@@ -1,6 +1,5 @@
 -- What the first choice that passes says: of the job, of the plan after it, and of the job that has none.
 use Rattle.std.proofs.Common.{◌≡◌, ℕ, ◌<◌, Bool, true, false, cond, ◌&&◌, ltb, List, length, is_some, Some, None, Ok, Err, Option, Result, sym, refl, ap, ◌∙◌, subst, ⊎_elim, arith}
-use Rattle.std.specs.Option.{ok_or}
 use Rattle.std.proofs.lemmas.List.{get_or_default}
 use Rattle.std.proofs.lemmas.Bool.{and_parts, cond_both, lt-ltb, ltb-true, not_from_false}
 use Rattle.terms.specs.declared.terms.Terms.{Terms}
@@ -15,12 +14,13 @@ use Rattle.rack.proofs.Parts.{fewer_pass}
 use Rattle.orders.specs.Turns.{EachOnce}
 use Rattle.orders.specs.TurnsLemmas.{every_turn}
 use Rattle.roster.specs.Changes.{addable, find, with_job, without}
+use Rattle.roster.specs.Loads.{loads}
 use Rattle.roster.specs.Rising.{placed, rising}
 use Rattle.roster.proofs.Jobs.{in_with_job, find_none, without_part}
 use Rattle.roster.proofs.Ordered.{rising_once, rising_with_job, rising_without}
 use Rattle.plantest.proofs.Listings.{placed_true}
 use Rattle.first_fit.specs.Choices.{Choice, placement_of, passes_beside, first_choice}
-use Rattle.planner.specs.Answers.{admitted_terms, chosen, jobs_with}
+use Rattle.planner.specs.Answers.{admitted_terms, chosen, jobs_with, place_admitted, tried_answer}
 use Rattle.planner.specs.Refused.{NoChoice, NoneBesideMore}
 use Rattle.first_fit.specs.Trying.{tried, tried_at, choice_jobs, tried_first}
 use Rattle.first_fit.proofs.Firsts.{choice_some, choice_none, choice_same}
@@ -49,11 +49,6 @@ admitted_free ps (Some u) t e =
 pub jobs_chosen : (t : Terms) (ps : List Placement) (o : Option Choice) → choice_jobs t ps o ≡ jobs_with ps (Ok t) (chosen o)
 jobs_chosen t ps None = refl
 jobs_chosen t ps (Some c) = refl
-
--- a choice as an answer
-pub chosen_is : (o : Option Choice) → ok_or o NoPlace ≡ chosen o
-chosen_is None = refl
-chosen_is (Some c) = refl
 
 -- refusal 5 is the answer where there is no choice
 pub chosen_refused : (o : Option Choice) → chosen o ≡ Err NoPlace → o ≡ None
@@ -131,6 +126,15 @@ module _ (before : Terms → Terms → Bool) (m : ℕ) (ps : List Placement) (t 
       (fewer_pass before m wider pass (with_job own ps)
       (rising_once (with_job own ps) (rising_with_job own ps up (find_none (number own) ps (is_none (find (number own) ps) new))))
       (λ q at. ⊎_elim (λ (same : q ≡ own). subst (λ x. In x wider) (sym same) w.has) (λ other. w.keeps q other) (in_with_job own q ps at)))
+
+-- what is answered where choices are tried is what is answered where they are tested
+pub tried_told :
+    (before : Terms → Terms → Bool) (turns : ℕ → List ℕ → List ℕ) (m : ℕ) (ps : List Placement) (o : Option Terms) (a : Result Terms Refusal) →
+    EachOnce m (turns m (loads ps)) → a ≡ admitted_terms ps o →
+    tried_answer (λ t. tried_first before m ps t (turns m (loads ps))) a ≡ place_admitted before turns m ps a
+tried_told before turns m ps o (Err e) each is = refl
+tried_told before turns m ps o (Ok t) each is =
+    let free = admitted_free ps o t is in ap chosen (tried_same before m ps t free.0 free.1 (turns m (loads ps)) each)
 
 -- fewer jobs never hurt
 pub keeps_without :

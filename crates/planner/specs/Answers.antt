@@ -35,6 +35,11 @@ abbrev pub chosen : Option Choice → Result Choice Refusal
 chosen None = Err NoPlace
 chosen (Some c) = Ok c
 
+-- the first choice that is tried with success for admitted terms, as an answer
+abbrev pub tried_answer : (Terms → Option Choice) → Result Terms Refusal → Result Choice Refusal
+tried_answer first (Err e) = Err e
+tried_answer first (Ok t) = chosen (first t)
+
 abbrev pub place_admitted : (Terms → Terms → Bool) → (ℕ → List ℕ → List ℕ) → ℕ → List Placement → Result Terms Refusal → Result Choice Refusal
 place_admitted before turns m ps (Err e) = Err e
 place_admitted before turns m ps (Ok t) = chosen (first_passing before turns m ps t)

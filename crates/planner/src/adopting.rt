@@ -28,12 +28,11 @@ impl<R: Precedence + Drop, O: SearchOrder + Drop> Plan<R, O> {
         }
     }
 
-    // Replaces machine count and jobs by those of a plan file, if its plan passes; or refusal 8 or 9.
-    pub fn adopt(&mut self, bytes: &[u8]) -> Result<(), Refusal>
+    // Takes over the plan of a file, if it passes; or refusal 8 or 9.
+    fn take_file(&mut self, bytes: &[u8]) -> Result<(), Refusal>
         ensures answer { result ≡ adopt_answer (R.Precedence.before self.old.rule) R.Precedence.code bytes.now }
         ensures plan { (self.new.roster.machines, self.new.roster.placements.items) ≡ adopt_plan (R.Precedence.before self.old.rule) R.Precedence.code bytes.now (self.old.roster.machines, self.old.roster.placements.items) }
         ensures same { (self.new.rule ≡ self.old.rule) × (self.new.order ≡ self.old.order) }
-        ensures means { AdoptMeans (R.Precedence.before self.old.rule) R.Precedence.code bytes.now (refused_with result) (self.old.roster.machines, self.old.roster.placements.items) (self.new.roster.machines, self.new.roster.placements.items) }
     {
         self.read_spare(bytes)?;
         if !roster_passes(&self.rule, &self.spare, &mut self.space) {
@@ -41,5 +40,15 @@ impl<R: Precedence + Drop, O: SearchOrder + Drop> Plan<R, O> {
         }
         mem::swap(&mut self.roster, &mut self.spare);
         Ok(())
+    }
+
+    // Replaces machine count and jobs by those of a plan file, if its plan passes; or refusal 8 or 9.
+    pub fn adopt(&mut self, bytes: &[u8]) -> Result<(), Refusal>
+        ensures answer { result ≡ adopt_answer (R.Precedence.before self.old.rule) R.Precedence.code bytes.now }
+        ensures plan { (self.new.roster.machines, self.new.roster.placements.items) ≡ adopt_plan (R.Precedence.before self.old.rule) R.Precedence.code bytes.now (self.old.roster.machines, self.old.roster.placements.items) }
+        ensures same { (self.new.rule ≡ self.old.rule) × (self.new.order ≡ self.old.order) }
+        ensures means { AdoptMeans (R.Precedence.before self.old.rule) R.Precedence.code bytes.now (refused_with result) (self.old.roster.machines, self.old.roster.placements.items) (self.new.roster.machines, self.new.roster.placements.items) }
+    {
+        self.take_file(bytes)
     }
 }

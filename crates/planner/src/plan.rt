@@ -18,8 +18,9 @@ pub struct Plan<R: Precedence, O: SearchOrder> {
     pub(crate) roster: Roster,
     pub(crate) space: Workspace,
     pub(crate) lates: Latenesses,
-    // a file that is being adopted: the plan that it holds, and its placements as they are read
+    // the plan as a search tries choices in it, or of a file that is being adopted
     pub(crate) spare: Roster,
+    // the placements of a file as they are read
     pub(crate) incoming: Buffer<Placement, 96>,
     // every plan passes: an empty one does, and each call keeps it so
     // (the calls' clauses `same` stay: nothing in a type says that a `&mut self` call keeps rule and order)

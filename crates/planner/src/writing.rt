@@ -1,4 +1,4 @@
-ghost use Rattle.std.specs.Prelude.{◌≡◌};
+ghost use Rattle.std.specs.Prelude.{◌≡◌, ◌<◌};
 ghost use Rattle.filewriter.specs.Written.{NotesLeftOut, RoundTrip};
 ghost use Rattle.planner.specs.Filed.{TakenBack, write_answer, write_bytes};
 
@@ -9,6 +9,17 @@ use precedence::Precedence;
 use terms::Refusal;
 
 impl<R: Precedence + Drop, O: SearchOrder + Drop> Plan<R, O> {
+    // Writes the plan's file and answers its length; or refusal 10.
+    fn write_file(&self, out: &mut [u8]) -> Result<usize, Refusal>
+        ensures answer { result ≡ write_answer self.now.roster.placements.items out.old }
+        ensures bytes { out.new ≡ write_bytes R.Precedence.code self.now.roster.machines self.now.roster.placements.items out.old }
+        ensures code { R.Precedence.code < 256 }
+        ensures round_trip { RoundTrip }
+        ensures notes { NotesLeftOut }
+    {
+        write_roster(R::its_code(), &self.roster, out)
+    }
+
     // Writes the plan file under the rule's code at the start of the space and answers its length; or refusal 10.
     pub fn write(&self, out: &mut [u8]) -> Result<usize, Refusal>
         ensures answer { result ≡ write_answer self.now.roster.placements.items out.old }
@@ -17,6 +28,6 @@ impl<R: Precedence + Drop, O: SearchOrder + Drop> Plan<R, O> {
         ensures round_trip { RoundTrip }
         ensures notes { NotesLeftOut }
     {
-        write_roster(R::its_code(), &self.roster, out)
+        self.write_file(out)
     }
 }

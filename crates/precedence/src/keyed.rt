@@ -37,6 +37,8 @@ impl<K: Keyed> Precedence for K {
     ghost orders = { λ s. laws_by_key (K.before s) (K.key s) (K.by_key s) };
 
     fn goes_before(&self, a: &Terms, b: &Terms) -> bool {
-        (self.key(a), a.number()) < (self.key(b), b.number())
+        // by hand: pairs compared as pairs made `window` a third slower
+        let (p, q) = (self.key(a), self.key(b));
+        p < q || (p == q && a.number() < b.number())
     }
 }

@@ -48,4 +48,14 @@ impl Roster {
         self.machines = machines;
         true
     }
+
+    // Holds what another roster holds. Both have memory for 96 placements, so that it cannot fail for want of it.
+    pub fn copy_from(&mut self, other: &Roster)
+        ensures machines { self.new.machines ≡ other.now.machines }
+        ensures items { self.new.placements.items ≡ other.now.placements.items }
+    {
+        self.placements.clear();
+        let _ = self.placements.extend_from_slice(other.placements());
+        self.machines = other.machines;
+    }
 }

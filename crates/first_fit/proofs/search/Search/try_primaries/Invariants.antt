@@ -9,5 +9,5 @@ invariant-loop-primary g l =
     record {
       jobs : vec_items l.roster.placements ≡ vec_items l.initial.roster.placements;
       machines : l.roster.machines ≡ l.initial.roster.machines;
-      rest : first_choice test l.self.turns.now l.self.turns.now ≡ first_choice test (drop l.primary-index l.self.turns.now) l.self.turns.now;
+      rest : first_choice test l.primaries l.self.turns.now ≡ first_choice test (drop l.primary-index l.primaries) l.self.turns.now;
     }

@@ -1,6 +1,6 @@
-use Rattle.std.proofs.Common.{◌≡◌, ℕ, ◌<◌, ◌≤◌, List, length, vec_items, Result, sym, ap, ◌∙◌, subst, arith}
+use Rattle.std.proofs.Common.{ℕ, ◌≤◌, List, length, vec_items, Result, sym, subst, arith}
 use Rattle.terms.specs.declared.refusal.Refusal.{Refusal}
-use Rattle.planner.specs.Filed.{TakenBack, write_answer, write_bytes}
+use Rattle.planner.specs.Filed.{TakenBack, write_answer}
 use Rattle.planner.proofs.Taking.{taken_back}
 use Rattle.planner.proofs.plan.Plan.write.Goals as goal
 
@@ -12,10 +12,8 @@ returns-clause-taken_back g c =
     let m = r.machines in
     let ps = vec_items r.placements in
     let space = c.args.out.now in
-    let own = c.write_roster.ensures in
-    let bytes : c.write_roster.new.out ≡ write_bytes code m ps space = own.bytes ∙ ap (λ k. write_bytes k m ps space) c.its_code.ensures in
-    let small : code < 256 = subst (λ (k : ℕ). k < 256) c.its_code.ensures c.its_code.type_inv in
+    let own = c.write_file.ensures in
     let few : length ps ≤ 96 = omega (arith, r.few, r.placements.ok.0) in
-    subst (λ (a : Result ℕ Refusal). TakenBack b code m ps a c.write_roster.new.out) (sym own.answer)
-    (subst (λ (xs : List ℕ). TakenBack b code m ps (write_answer ps space) xs) (sym bytes)
-    (taken_back b code m ps small r.sized.0 r.sized.1 few r.rising_numbers r.on_the_rack space))
+    subst (λ (a : Result ℕ Refusal). TakenBack b code m ps a c.write_file.new.out) (sym own.answer)
+    (subst (λ (xs : List ℕ). TakenBack b code m ps (write_answer ps space) xs) (sym own.bytes)
+    (taken_back b code m ps own.code r.sized.0 r.sized.1 few r.rising_numbers r.on_the_rack space))
