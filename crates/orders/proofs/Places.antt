@@ -1,5 +1,5 @@
 -- The numbers below a count as a list: how many pass a test, and where one number is found.
-use Rattle.std.proofs.Common.{◌≡◌, ℕ, zero, suc, ◌+◌, ◌<◌, ◌≤◌, ◌==◌, Bool, true, false, cond, List, Some, nat_eq, slice_index_or, unwrap_or, refl, ap, ◌∙◌, sym, ⊎_elim, arith}
+use Rattle.std.proofs.Common.{◌≡◌, ℕ, zero, suc, ◌+◌, ◌-◌, ◌<◌, ◌≤◌, ◌==◌, Bool, true, false, cond, List, Some, nat_eq, slice_index_or, unwrap_or, refl, ap, ◌∙◌, sym, ⊎_elim, arith}
 use Rattle.std.specs.Bool.{then_some}
 use Rattle.std.specs.List.{range_with_len, count_by, find}
 use Rattle.std.proofs.lemmas.List.Sums.{sum_by-cons}
@@ -52,3 +52,11 @@ machine_found loads count k asked =
 pub place_found : (count k : ℕ) (told : Bool) → is_turn count k ≡ told → unwrap_or (then_some told k) 255 ≡ turn_of (range_with_len 0 count) count k
 place_found count k true asked = rw asked (sym (place_is count k (is_turn_true count k asked).2))
 place_found count k false asked = rw asked refl
+
+-- a search of the numbers from g on looks at g first
+pub looks_first :
+    (test : ℕ → Bool) (g n : ℕ) → g < n →
+    find test (range_with_len g (n - g)) ≡ cond (test g) (Some g) (find test (range_with_len (g + 1) (n - (g + 1))))
+looks_first test g n lt =
+    let more : n - g ≡ suc (n - (g + 1)) = omega arith in
+    ap (λ (k : ℕ). find test (range_with_len g k)) more
