@@ -1,9 +1,10 @@
 -- The numbers below a count as a list: how many pass a test, and where one number is found.
-use Rattle.std.proofs.Common.{◌≡◌, ℕ, zero, suc, ◌+◌, ◌-◌, ◌<◌, ◌≤◌, ◌==◌, Bool, true, false, cond, List, Some, nat_eq, slice_index_or, unwrap_or, refl, ap, ◌∙◌, sym, ⊎_elim, arith}
+use Rattle.std.proofs.Common.{◌≡◌, ℕ, zero, suc, ◌+◌, ◌-◌, ◌<◌, ◌≤◌, ◌==◌, Bool, true, false, cond, List, Some, None, Option, is_some, nat_eq, slice_index_or, unwrap_or, refl, ap, ◌∙◌, sym, ⊎_elim, arith}
 use Rattle.std.specs.Bool.{then_some}
+use Rattle.std.specs.Option.{option_or}
 use Rattle.std.specs.List.{range_with_len, count_by, find}
 use Rattle.std.proofs.lemmas.List.Sums.{sum_by-cons}
-use Rattle.std.proofs.lemmas.Bool.{cases_eq, ne_eqb, eq-eqb}
+use Rattle.std.proofs.lemmas.Bool.{cases_eq, cond-true, cond-false, ne_eqb, eq-eqb}
 use Rattle.orders.specs.Turns.{is_turn, turn_of}
 use Rattle.orders.specs.Lightest.{by_load, lighter, rank}
 use Rattle.orders.specs.Counting.{place_is}
@@ -55,8 +56,22 @@ place_found count k false asked = rw asked refl
 
 -- a search of the numbers from g on looks at g first
 pub looks_first :
-    (test : ℕ → Bool) (g n : ℕ) → g < n →
-    find test (range_with_len g (n - g)) ≡ cond (test g) (Some g) (find test (range_with_len (g + 1) (n - (g + 1))))
-looks_first test g n lt =
+    (test : ℕ → Bool) (g n : ℕ) (o : Option ℕ) → g < n → o ≡ then_some (test g) g →
+    find test (range_with_len g (n - g)) ≡ option_or o (find test (range_with_len (g + 1) (n - (g + 1))))
+looks_first test g n o lt is =
     let more : n - g ≡ suc (n - (g + 1)) = omega arith in
-    ap (λ (k : ℕ). find test (range_with_len g k)) more
+    ap (λ (k : ℕ). find test (range_with_len g k)) more ∙ go (test g) (find test (range_with_len (g + 1) (n - (g + 1)))) o is
+  where
+    go : (t : Bool) (next p : Option ℕ) → p ≡ then_some t g → cond t (Some g) next ≡ option_or p next
+    go true next p e = ap (λ q. option_or q next) (sym e)
+    go false next p e = ap (λ q. option_or q next) (sym e)
+
+-- so a machine that is there is the one found
+pub taken_first : (o next : Option ℕ) → is_some o ≡ true → option_or o next ≡ o
+taken_first None next there = let z : ◌≡◌ {A = ℕ} 0 1 = cc in absurd (omega arith)
+taken_first (Some x) next there = refl
+
+-- and else the search goes on
+pub passed_first : (o next : Option ℕ) → is_some o ≡ false → option_or o next ≡ next
+passed_first None next none = refl
+passed_first (Some x) next none = let z : ◌≡◌ {A = ℕ} 0 1 = cc in absurd (omega arith)

@@ -1,4 +1,5 @@
 ghost use Rattle.std.specs.Prelude.{◌≡◌, ◌<◌, ◌≤◌, ◌==◌, count_by};
+ghost use Rattle.std.specs.Bool.{then_some};
 ghost use Rattle.std.specs.List.{find, range_with_len};
 ghost use Rattle.orders.specs.Lightest.{Sorted, lighter, lightest_turns};
 ghost use Rattle.orders.specs.Turns.{turn_of};
@@ -34,14 +35,23 @@ fn rank_of(count: u8, loads: &[u64; 16], g: u8) -> usize
     before
 }
 
-// The machine at place `k` below the count: as many come before it as stand before it.
+// Machine `g`, if as many come before it as stand before place `k`.
+fn machine_if(count: u8, loads: &[u64; 16], g: u8, k: u8) -> Option<u8>
+    requires { (count ≤ 16) × (g < count) }
+    ensures { result ≡ then_some (count_by (λ h. lighter loads.now h g) (range_with_len 0 count) == k) g }
+{
+    (rank_of(count, loads, g) == usize::from(k)).then_some(g)
+}
+
+// The machine at place `k` below the count: the first of which that is so.
 fn machine_at(count: u8, loads: &[u64; 16], k: u8) -> Option<u8>
     requires { count ≤ 16 }
     ensures { result ≡ find (λ g. count_by (λ h. lighter loads.now h g) (range_with_len 0 count) == k) (range_with_len 0 count) }
 {
     for g in 0..count {
-        if rank_of(count, loads, g) == usize::from(k) {
-            return Some(g);
+        let machine = machine_if(count, loads, g, k);
+        if machine.is_some() {
+            return machine;
         }
     }
     None

@@ -1,25 +1,24 @@
-use Rattle.std.proofs.Common.{ℕ, ◌+◌, ◌-◌, Bool, eqb, count_by, Some, sym, ◌∙◌}
+use Rattle.std.proofs.Common.{ℕ, ◌+◌, ◌-◌, Bool, ◌==◌, count_by, sym, ◌∙◌}
 use Rattle.std.specs.List.{find, range_with_len}
-use Rattle.std.proofs.lemmas.Bool.{cond-true, cond-false, eq-eqb, ne_eqb}
 use Rattle.orders.specs.Lightest.{lighter}
-use Rattle.orders.proofs.Places.{looks_first}
+use Rattle.orders.proofs.Places.{looks_first, taken_first, passed_first}
 use Rattle.orders.proofs.lightest.machine_at.Goals as goal
 
-pub returns-then-rank_of-from : goal.returns-then-rank_of-from
-returns-then-rank_of-from c =
-    let rank : ℕ → ℕ = λ g. count_by (λ h. lighter c.args.loads.now h g) (range_with_len 0 c.args.count) in
-    let test : ℕ → Bool = λ g. eqb (rank g) c.args.k in
+pub returns-then-is_some : goal.returns-then-is_some
+returns-then-is_some c =
+    let n : ℕ = c.args.count in
     let g : ℕ = c.loop-g.g in
-    let yes' = eq-eqb (rank g) c.args.k (sym c.rank_of.ensures ∙ c.if-rank_of-from.true ∙ c.from.ensures) in
+    let test : ℕ → Bool = λ h. count_by (λ x. lighter c.args.loads.now x h) (range_with_len 0 n) == c.args.k in
+    let one = c.machine_if-machine.result in
     sym
-    (c.loop-g.invariant ∙ looks_first test g c.args.count c.loop-g-test.true
-    ∙ cond-true (test g) (Some g) (find test (range_with_len (g + 1) (c.args.count - (g + 1)))) yes')
+    (c.loop-g.invariant ∙ looks_first test g n one c.loop-g-test.true c.machine_if-machine.ensures
+    ∙ taken_first one (find test (range_with_len (g + 1) (n - (g + 1)))) (sym c.is_some.ensures ∙ c.if-is_some.true))
 
 pub loop-g-preserved : goal.loop-g-preserved
 loop-g-preserved c =
-    let rank : ℕ → ℕ = λ g. count_by (λ h. lighter c.args.loads.now h g) (range_with_len 0 c.args.count) in
-    let test : ℕ → Bool = λ g. eqb (rank g) c.args.k in
+    let n : ℕ = c.args.count in
     let g : ℕ = c.loop-g.g in
-    let no' = ne_eqb (rank g) c.args.k (λ same. c.if-rank_of-from.false (c.rank_of.ensures ∙ same ∙ sym c.from.ensures)) in
-    c.loop-g.invariant ∙ looks_first test g c.args.count c.loop-g-test.true
-    ∙ cond-false (test g) (Some g) (find test (range_with_len (g + 1) (c.args.count - (g + 1)))) no'
+    let test : ℕ → Bool = λ h. count_by (λ x. lighter c.args.loads.now x h) (range_with_len 0 n) == c.args.k in
+    let one = c.machine_if-machine.result in
+    c.loop-g.invariant ∙ looks_first test g n one c.loop-g-test.true c.machine_if-machine.ensures
+    ∙ passed_first one (find test (range_with_len (g + 1) (n - (g + 1)))) (sym c.is_some.ensures ∙ c.if-is_some.false)
