@@ -62,7 +62,7 @@ fn search_from<R: Precedence>(
 
 // The first choice in these turns with which the plan passes. `trial` is then the plan with it, and the plan as it was
 // where there is none. What `first_passing` answers, without a test of the plan by itself; and where no machine has room
-// for the job's primary, without a figure of the jobs elsewhere.
+// for the job's primary, figures of jobs elsewhere are sought for the first choice alone.
 pub fn first_beside<R: Precedence>(
     plan: &Passing<R>,
     trial: &mut Roster,

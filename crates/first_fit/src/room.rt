@@ -55,6 +55,7 @@ impl<R: Precedence> Search<'_, R> {
         ensures jobs { roster.new.placements.items ≡ roster.old.placements.items }
         ensures machines { roster.new.machines ≡ roster.old.machines }
     {
+        // No `position`: its closure would change the roster and `space`.
         for (i, primary) in self.turns.iter().enumerate() {
             if self.has_room(roster, space, *primary) {
                 return i;
